@@ -159,7 +159,7 @@ module _ (members : List Member) (i start bound : ℕ) (s : State) where
 
 -- ---- the routers of a link
 
-always_more : (P Q : Network → Type 0) → ((n : Network) → P n → Q n) → (ms : List Move) (n : Network) → Always P n ms → Always Q n ms
+pub always_more : (P Q : Network → Type 0) → ((n : Network) → P n → Q n) → (ms : List Move) (n : Network) → Always P n ms → Always Q n ms
 always_more P Q more [] n f = more n f
 always_more P Q more (m ∷ ms) n f = (more n f.0, always_more P Q more ms (moved n m).1 f.1)
 

@@ -1,12 +1,12 @@
 -- Of the routers of a link exactly that of the lowest address is the querier: by Refresh, its row's timer and the rows of
 -- the others.
-use Rattle.std.{proofs.{Common.{◌≡◌, ◌∙◌, ℕ, ◌+◌, ◌*◌, ◌<◌, ◌≤◌, ◌==◌, ◌&&◌, nat_le, nat_lt, true, false, List, [], ◌∷◌, ◌⊎◌, inl, inr, Option, Some, None, refl, sym, ap, subst, arith}, lemmas.Bool.Decides.nat_tests}, specs.Option.option_map_or}
+use Rattle.std.{proofs.{Common.{◌≡◌, ◌∙◌, ℕ, ◌+◌, ◌*◌, ◌<◌, ◌≤◌, nat_le, nat_lt, true, false, List, [], ◌∷◌, ◌⊎◌, inl, inr, Option, Some, None, refl, sym, ap, subst, arith}, lemmas.Bool.Decides.nat_tests}, specs.Option.option_map_or}
 use Rattle.pim_ip.{specs.{Addr.addr, Ipv4.is_unicast}}
 use Rattle.pim_types.{specs.{Keys.iface_key, declared.{config.{IfaceId.IfaceId, Settings.Settings}, event.{Event.Event, EventKind.EventKind}, fact.{Key.Key, QuerierRole.QuerierRole, QuerierRow.QuerierRow}, timer.TimerKind.TimerKind}}}
 use Rattle.pim_model.{specs.{declared.accepted.Accepted.Accepted, Cause.done_as, Network.{Move, Network, Station, event_of, frame_at, moved, station_at}, Querier.{is_querier, is_querier_role, querier_on}, State.{State}, Step.step, Timers.other_querier_end}}
 use Rattle.law_settled.{specs.Ready.IsSettled, proofs.{FineStates.Runs, Parts.{end_of, is_sound, part_of}, ShownEnds.{rows_run, shown_is_later}, TableLaws.row_of_each}}
-use Rattle.law_streams.{specs.{Adjacent.{Adjacent, begins_or_ends}, Copies.happens, InTimeJoins.{Always, IsBy, IsReady, time_at}}, proofs.{Deliveries.{IsNewOn, IsStepped, is_delivered}, Pairs.{Steps, frame_stays, one_router, ready_then, same_station}, Refresh.{EverAfter, Held, Keeps, Sent as SentBy, Soon, Turned, Turns, comes_to_hold}, Upper.moves_on}}
-use Rattle.law_converges.{specs.{LinkDr.{AllPast, IsOne, Member, between}, LinkQuerier.{Asks, ExactlyOneQuerier, HasOneQuerier, HoldsBack, IsQuerierOf, KeepsLead, LeadsBy, OneQuerierAfter, QueriesInTime, QueryComes, QueryComesBy, QueryInTime, cuts, ends_holding, general_of, interval_of, is_own, present_for, query_packet, role_end, takes_lead}}, proofs.{Queries.{QueriesBy, SendsQuery, each_event_query}, QueryRead.{query_holds_back, query_is_done}, Roles.event_holds_back}}
+use Rattle.law_streams.{specs.{Adjacent.{Adjacent, begins_or_ends}, Copies.happens, InTimeJoins.{Always, IsBy, IsReady, time_at}}, proofs.{Deliveries.{IsStepped, is_delivered}, Pairs.{Steps, frame_stays, one_router, ready_then, same_station}, Refresh.{EverAfter, Held, Keeps, Soon, comes_to_hold}, Upper.moves_on}}
+use Rattle.law_converges.{specs.{LinkDr.{AllPast, IsOne, Member, between}, LinkQuerier.{Asks, ExactlyOneQuerier, HasOneQuerier, HoldsBack, IsQuerierOf, KeepsLead, LeadsBy, OneQuerierAfter, QueriesInTime, QueryComes, QueryComesBy, QueryInTime, cuts, ends_holding, general_of, interval_of, is_own, present_for, query_packet, role_end, takes_lead}}, proofs.{QuerierClock.{AreTimely, RowBy, Timely, first_timer, own_of, turns, up_to}, Queries.{QueriesBy, SendsQuery, each_event_query}, QueryRead.{query_holds_back, query_is_done}, Roles.event_holds_back}}
 
 -- what isn't time to the end, Up, Down or a query that cuts it
 isnt_end : (s : State) (e : Event) (i end : ℕ) → ((step s e).state).present < end
@@ -23,32 +23,9 @@ isnt_end s e i end early stays long (Some (Accepted.Down j)) is = ap (begins_or_
 isnt_end s e i end early stays long (Some (Accepted.Query j from q)) is = ap (cuts s i end) (sym is) ∙ long
 isnt_end s e i end early stays long (Some a) is = grind arith
 
-both_same : (a b : ℕ) → ((a == a) && (b == b)) ≡ true
-both_same a b = grind arith
-
--- who queries goes by its own values
-own_of : (t : Settings) (i b : ℕ) (s : State) (g : QueriesBy t i b s) → is_own t (g.row).role g.row ≡ true
-own_of t i b s g = rw (g.role, g.robust, g.often) (both_same t.robustness t.query_interval)
-
 -- ---- one router and another of the link
 
 module _ (t : Settings) (hold d : ℕ) (started : ℕ → ℕ) (c : Adjacent) (few : interval_of t + 2 * d < hold) (robust : t.robustness < 8) where
-  abbrev next : Network → Move → Network
-  next n m = (moved n m).1
-
-  abbrev By : ℕ → Network → Type 0
-  By y n = IsBy started c.upper y n
-
-  -- the first one's row, whose timer ends by a time
-  pub record RowBy (x : ℕ) (s : State) : Type 0 where
-    pub row : QuerierRow
-    pub found : querier_on s c.iface ≡ Some row
-    pub own : is_own t row.role row ≡ true
-    pub by : role_end row.role + started c.lower ≤ x
-
-  abbrev Timer : ℕ → Network → Type 0
-  Timer x n = (st : Station) → station_at n c.lower ≡ Some st → RowBy x st.state
-
   -- the other one is held back until a time at least
   pub record HoldsTo (l : ℕ) (n : Network) : Type 0 where
     pub station : Station
@@ -57,8 +34,14 @@ module _ (t : Settings) (hold d : ℕ) (started : ℕ → ℕ) (c : Adjacent) (f
     pub holds : HoldsBack station.state c.down end
     pub lasts : l ≤ end + started c.upper
 
-  abbrev Holds : ℕ → Network → Type 0
-  Holds l n = HoldsTo l n
+  abbrev next : Network → Move → Network
+  next n m = (moved n m).1
+
+  abbrev By : ℕ → Network → Type 0
+  By y n = IsBy started c.upper y n
+
+  abbrev Timer : ℕ → Network → Type 0
+  Timer x n = (st : Station) → station_at n c.lower ≡ Some st → RowBy t started c x st.state
 
   abbrev Outlasts : ℕ → Network → Move → Type 0
   Outlasts l n m = Unit {0}
@@ -99,129 +82,34 @@ module _ (t : Settings) (hold d : ℕ) (started : ℕ → ℕ) (c : Adjacent) (f
       }
 
     comes_so : (ms : List Move) (n : Network) → framed_at n → QueryComesBy t hold d started c number sent n ms
-        → Soon next hold d By Timer Holds Outlasts sent n ms
+        → Soon next hold d By Timer HoldsTo Outlasts sent n ms
     comes_so [] n framed f = tt
     comes_so (m ∷ ms) n framed f = go f (comes_so ms (next n m) (frame_stays n m number _ framed))
       where
         go : (QueryComes t hold started c number sent n m
             ⊎ (IsBy started c.upper (sent + d) (next n m) × QueryComesBy t hold d started c number sent (next n m) ms))
-            → (QueryComesBy t hold d started c number sent (next n m) ms → Soon next hold d By Timer Holds Outlasts sent (next n m) ms)
-            → Soon next hold d By Timer Holds Outlasts sent n (m ∷ ms)
+            → (QueryComesBy t hold d started c number sent (next n m) ms → Soon next hold d By Timer HoldsTo Outlasts sent (next n m) ms)
+            → Soon next hold d By Timer HoldsTo Outlasts sent n (m ∷ ms)
         go (inl f) later = inl (held_then n m framed f, λ l lt. tt)
         go (inr (by, soon)) later = inr (by, later soon)
 
-  -- ---- who asks
+  -- what the clock asks
+  timely : (n : Network) (m : Move) (ms : List Move) → is_unicast c.address ≡ true → QueryInTime t hold d started c n m ms
+      → Timely t hold d started c few HoldsTo n m ms
+  timely n m ms host f = record {
+    timer = f.timer;
+    comes = λ e st number ev at later got. comes_so host number (time_at started c.lower st) ms (moved n m).1 got (f.queries e st number ev at later got);
+  }
 
-  module _ (n : Network) (m : Move) (ms : List Move) (here : Asks t c n) (ready : IsReady c.lower n)
-      (keeps_lead : (e : Event) (st : Station) → event_of n m ≡ Some (c.lower, e) → station_at n c.lower ≡ Some st
-      → takes_lead st.state c.iface (done_as (happens st.state e)) ≡ false)
-      (in_time : QueryInTime t hold d started c n m ms) (x : ℕ) (timer_by : Timer x n) where
-    abbrev st : Station
-    st = here.station
-
-    abbrev s : State
-    s = (here.station).state
-
-    abbrev after : Network
-    after = (moved n m).1
-
-    its : RowBy x s
-    its = timer_by st here.there
-
-    abbrev row : QuerierRow
-    row = (its).row
-
-    late : IsBy started c.lower (role_end row.role + started c.lower + d) (moved n m).1
-        × IsBy started c.upper (role_end row.role + started c.lower + d) (moved n m).1
-    late = in_time.timer st row here.there (its).found
-
-    further : (t a : ℕ) → t ≤ a + d → a ≤ x → t ≤ x + d
-    further t a e f = omega (arith, e, f)
-
-    by_x : By (x + d) after
-    by_x = λ y at. further (time_at started c.upper y) (role_end row.role + started c.lower) (late.1 y at) (its).by
-
-    abbrev Out : Type 0
-    Out = SentBy next hold d By Timer Holds Outlasts x after ms
-
-    -- the row stays
-    timer_at : (u : Station) → station_at after c.lower ≡ Some u → querier_on u.state c.iface ≡ Some row → Timer x after
-    timer_at u at found = λ y is.
-        subst (λ (v : Station). RowBy x v.state) (same_station at is)
-        (record { row = row; found = found; own = (its).own; by = (its).by })
-
-    rest : IsSettled s
-    rest = subst (λ (z : Station). IsSettled z.state) (same_station ready.there here.there) (ready.at_rest).settled
-
-    module _ (w : Steps n m c.lower st) where
-      abbrev u : Station
-      u = record st { state = (step s w.event).state }
-
-      told : (new : IsNewOn n after c.link (query_packet c.address t))
-          → QueryComesBy t hold d started c (new.on).number (time_at started c.lower u) after ms
-      told new = in_time.queries w.event u (new.on).number w.is (w.stepped).here new.later (new.on).is
-
-      short : (p : ℕ) → p + interval_of t + started c.lower ≤ p + started c.lower + interval_of t
-      short p = swap p (interval_of t) (started c.lower)
-        where
-          swap : (p i q : ℕ) → p + i + q ≤ p + q + i
-          swap p i q = omega arith
-
-      by_then : (a b p q z : ℕ) → a ≡ b → b ≤ p → p + q ≤ z → a + q ≤ z
-      by_then a b p q z e f g = omega (arith, e, f, g)
-
-      by_own : IsNewOn n after c.link (query_packet c.address t)
-          → QueriesBy t c.iface (((step s w.event).state).present + interval_of t) (step s w.event).state → Out
-      by_own new g =
-          let sent : ℕ = time_at started c.lower u in
-          let soon : sent ≤ role_end row.role + started c.lower + d = late.0 u (w.stepped).here in
-          record {
-            at = sent;
-            rest = interval_of t;
-            low = further sent (role_end row.role + started c.lower) soon (its).by;
-            few = few;
-            comes = inr (comes_so here.from_host (new.on).number sent ms after (new.on).is (told new));
-            timer = λ y is. subst (λ (v : Station). RowBy (sent + interval_of t) v.state) (same_station (w.stepped).here is) (record {
-              row = g.row;
-              found = g.found;
-              own = own_of t c.iface (((step s w.event).state).present + interval_of t) (step s w.event).state g;
-              by = by_then (role_end (g.row).role) g.next (((step s w.event).state).present + interval_of t) (started c.lower) (sent + interval_of t)
-                  (ap role_end g.role) g.soon (short ((step s w.event).state).present);
-            });
-          }
-
-      by_lasts : (querier_on (step s w.event).state c.iface ≡ Some row)
-          ⊎ (SendsQuery s.configured t c.iface (step s w.event).emissions
-          × QueriesBy t c.iface (((step s w.event).state).present + interval_of t) (step s w.event).state)
-          → Timer x after ⊎ Out
-      by_lasts (inl same) = inl (timer_at u (w.stepped).here same)
-      by_lasts (inr (sends, g)) =
-          inr (by_own (subst (λ (a : ℕ). IsNewOn n after c.link (query_packet a t)) here.own
-          ((w.stepped).sent c.iface c.link _ here.linked sends.is_sent)) g)
-
-      by_event : Timer x after ⊎ Out
-      by_event =
-          by_lasts (each_event_query c.iface t s w.event row (its).found (its).own here.settings rest (keeps_lead w.event st w.is here.there))
-
-    turned : Turned next hold d By Timer Holds Outlasts x after ms
-    turned = record { by = by_x; turn = go (one_router n m c.lower st here.there) }
-      where
-        go : (station_at after c.lower ≡ Some st) ⊎ Steps n m c.lower st → Timer x after ⊎ Out
-        go (inl same) = inl (timer_at st same (its).found)
-        go (inr w) = by_event w
-
-  turns : (ms : List Move) (n : Network) → Always (Asks t c) n ms → IsReady c.lower n → KeepsLead c n ms
-      → QueriesInTime t hold d started c n ms → Turns next hold d By Timer Holds Outlasts n ms
-  turns [] n here ready lead in_time = tt
-  turns (m ∷ ms) n here ready lead in_time = (
-    λ x by. turned n m ms here.0 ready lead.0 in_time.0 x by,
-    turns ms (moved n m).1 here.1 (ready_then c.lower n m ready) lead.1 in_time.1,
-  )
+  all_timely : (ms : List Move) (n : Network) → Always (Asks t c) n ms → QueriesInTime t hold d started c n ms
+      → AreTimely t hold d started c few HoldsTo n ms
+  all_timely [] n here f = tt
+  all_timely (m ∷ ms) n here f = (timely n m ms (here.0).from_host f.0, all_timely ms (moved n m).1 here.1 f.1)
 
   -- ---- who is held back
 
   module _ (n : Network) (m : Move) (ms : List Move) (ready : IsReady c.upper n) (in_time : QueryInTime t hold d started c n m ms)
-      (l y : ℕ) (lt : y < l) (by : By y (moved n m).1) (held : Holds l n) where
+      (l y : ℕ) (lt : y < l) (by : By y (moved n m).1) (held : HoldsTo l n) where
     abbrev above : Station
     above = held.station
 
@@ -237,10 +125,10 @@ module _ (t : Settings) (hold d : ℕ) (started : ℕ → ℕ) (c : Adjacent) (f
         less : (a b q : ℕ) → a + q ≤ y → l ≤ b + q → a < b
         less a b q e f = omega (arith, e, f, lt)
 
-    stays_held : Holds l (moved n m).1
+    stays_held : HoldsTo l (moved n m).1
     stays_held = go (one_router n m c.upper above held.there)
       where
-        go : (station_at (moved n m).1 c.upper ≡ Some above) ⊎ Steps n m c.upper above → Holds l (moved n m).1
+        go : (station_at (moved n m).1 c.upper ≡ Some above) ⊎ Steps n m c.upper above → HoldsTo l (moved n m).1
         go (inl same) = record { station = above; there = same; end = held.end; holds = held.holds; lasts = held.lasts }
         go (inr w) =
             let z : Station = record above { state = (step v w.event).state } in
@@ -256,34 +144,20 @@ module _ (t : Settings) (hold d : ℕ) (started : ℕ → ℕ) (c : Adjacent) (f
             }
 
   keeps : (ms : List Move) (n : Network) → IsReady c.upper n → QueriesInTime t hold d started c n ms
-      → Keeps next hold d By Timer Holds Outlasts n ms
+      → Keeps next hold d By Timer HoldsTo Outlasts n ms
   keeps [] n ready in_time = tt
   keeps (m ∷ ms) n ready in_time = (
     λ l y lt by. (tt, stays_held n m ms ready in_time.0 l y lt by),
     keeps ms (moved n m).1 (ready_then c.upper n m ready) in_time.1,
   )
 
-  up_to : (bound : ℕ) (n : Network) (a : ℕ) → a ≤ bound → By a n → By bound n
-  up_to bound n a le by = λ y at. trans (time_at started c.upper y) (by y at)
-    where
-      trans : (z : ℕ) → z ≤ a → z ≤ bound
-      trans z early = omega (arith, early, le)
-
-  first_timer : (n : Network) (bound : ℕ) (f : LeadsBy t d bound started c n) → Timer (role_end (f.row).role + started c.lower) n
-  first_timer n bound f = λ y is.
-      subst (λ (v : Station). RowBy (role_end (f.row).role + started c.lower) v.state) (same_station f.there is)
-      (record { row = f.row; found = f.found; own = f.own; by = same (role_end (f.row).role + started c.lower) })
-    where
-      same : (a : ℕ) → a ≤ a
-      same a = omega arith
-
   -- from the bound on the other one is held back
   held_after : (n : Network) (ms : List Move) (bound : ℕ) → LeadsBy t d bound started c n → Always (Asks t c) n ms → IsReady c.lower n
       → IsReady c.upper n → KeepsLead c n ms → QueriesInTime t hold d started c n ms
-      → EverAfter next hold d By Timer Holds Outlasts bound n ms
+      → EverAfter next hold d By Timer HoldsTo Outlasts bound n ms
   held_after n ms bound f here ready above lead in_time =
-      comes_to_hold next hold d By Timer Holds Outlasts bound (up_to bound) ms n (role_end (f.row).role + started c.lower) f.by
-      (first_timer n bound f) (turns ms n here ready lead in_time) (keeps ms n above in_time)
+      comes_to_hold next hold d By Timer HoldsTo Outlasts bound (up_to t hold d started c few HoldsTo bound) ms n (role_end (f.row).role + started c.lower) f.by
+      (first_timer t hold d started c few HoldsTo n bound f) (turns t hold d started c few HoldsTo ms n here ready lead (all_timely ms n here in_time)) (keeps ms n above in_time)
 
 -- ---- the first one
 
@@ -379,7 +253,7 @@ always_more : (P Q : Network → Type 0) → ((n : Network) → P n → Q n) →
 always_more P Q more [] n f = more n f
 always_more P Q more (m ∷ ms) n f = (more n f.0, always_more P Q more ms (moved n m).1 f.1)
 
-asks_of : (t : Settings) (link : ℕ) (x y : Member) (n : Network) → Asks t (between link x x) n → Asks t (between link x y) n
+pub asks_of : (t : Settings) (link : ℕ) (x y : Member) (n : Network) → Asks t (between link x x) n → Asks t (between link x y) n
 asks_of t link x y n f = record {
   station = f.station;
   there = f.there;
@@ -391,7 +265,7 @@ asks_of t link x y n f = record {
   from_host = f.from_host;
 }
 
-keeps_of : (link : ℕ) (x y : Member) (ms : List Move) (n : Network) → KeepsLead (between link x x) n ms → KeepsLead (between link x y) n ms
+pub keeps_of : (link : ℕ) (x y : Member) (ms : List Move) (n : Network) → KeepsLead (between link x x) n ms → KeepsLead (between link x y) n ms
 keeps_of link x y [] n f = tt
 keeps_of link x y (m ∷ ms) n f = (f.0, keeps_of link x y ms (moved n m).1 f.1)
 
@@ -411,7 +285,7 @@ module _ (t : Settings) (hold d bound : ℕ) (started : ℕ → ℕ) (link : ℕ
   abbrev After : Member → Network → List Move → Type 0
   After y n ms =
       EverAfter (λ n m. (moved n m).1) hold d (λ z n. IsBy started y.router z n)
-      (λ z n. (st : Station) → station_at n x.router ≡ Some st → RowBy t hold d started (between link x y) few robust z st.state)
+      (λ z n. (st : Station) → station_at n x.router ≡ Some st → RowBy t started (between link x y) z st.state)
       (HoldsTo t hold d started (between link x y) few robust) (λ l n m. Unit {0}) bound n ms
 
   walk : (first : ℕ) → first ≤ bound → (ms : List Move) (n : Network) → Claims t started itself first n → IsReady x.router n
@@ -444,7 +318,7 @@ module _ (t : Settings) (hold d bound : ℕ) (started : ℕ → ℕ) (link : ℕ
           other : (y : Member) (a : IsOne others y)
               → (IsBy started y.router bound (moved n m).1
               ⊎ Held (λ n m. (moved n m).1) hold d (λ z n. IsBy started y.router z n)
-              (λ z n. (st : Station) → station_at n x.router ≡ Some st → RowBy t hold d started (between link x y) few robust z st.state)
+              (λ z n. (st : Station) → station_at n x.router ≡ Some st → RowBy t started (between link x y) z st.state)
               (HoldsTo t hold d started (between link x y) few robust) (λ l n m. Unit {0}) (moved n m).1)
               → IsQuerierOf y false (moved n m).1
           other y a (inl by) =
@@ -456,7 +330,7 @@ module _ (t : Settings) (hold d bound : ℕ) (started : ℕ → ℕ) (link : ℕ
             is = not_querier ((h.holds).station).state y.iface (h.holds).end (h.holds).holds;
           }
 
-leads_of : (t : Settings) (d bound : ℕ) (started : ℕ → ℕ) (link : ℕ) (x y : Member) (n : Network)
+pub leads_of : (t : Settings) (d bound : ℕ) (started : ℕ → ℕ) (link : ℕ) (x y : Member) (n : Network)
     → LeadsBy t d bound started (between link x x) n → LeadsBy t d bound started (between link x y) n
 leads_of t d bound started link x y n f =
     record { station = f.station; there = f.there; row = f.row; found = f.found; own = f.own; by = f.by }

@@ -4,8 +4,7 @@ use Rattle.pim_ip.{specs.{declared.addr.Addr.Addr, Addr.addr, Checksum.with_chec
 use Rattle.pim_types.{specs.declared.{config.{IfaceId.IfaceId, Settings.Settings}, event.{Event.Event, EventKind.EventKind}}}
 use Rattle.igmp_wire.{specs.{Messages.igmp_reading, Queries.query_text, Values.Query as QueryValue, declared.view.IgmpView.IgmpView}, proofs.RoundTrip.query_reads}
 use Rattle.pim_model.{specs.{declared.accepted.Accepted.Accepted, Cause.done_as, Full.is_full, Judging.{frame_judged, igmp_judged, igmp_message_judged, judged, packet_judged}, Messages.Message, Querier.{is_lower_querier}, State.{State, iface_count}, Step.{Answered, change, done, step}}}
-use Rattle.law_settled.{proofs.Unsettled.{Unsettled, settling_leaves}}
-use Rattle.law_streams.{specs.{Copies.happens, Hellos.Listens}, proofs.{EndSoon.change_present, Leaves.taken_is_done, Made.step_taken, Passes.done_if, ReadBack.within_range}}
+use Rattle.law_streams.{specs.{Copies.happens, Hellos.Listens}, proofs.{Leaves.taken_is_done, Made.step_taken, Passes.done_if, ReadBack.within_range}}
 use Rattle.law_converges.{specs.LinkQuerier.{HoldsBack, general_of, present_for, query_packet}, proofs.Roles.{query_there, settled_row}}
 
 no_sources : All (λ (source : ℕ). source < 2 ^ 32) []

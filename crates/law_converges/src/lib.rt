@@ -1,9 +1,14 @@
-//! What becomes of a network some time after the last change: on what the routers of a link agree, when a group that its
-//! hosts left is gone, and whom a router joins over when its next hop changes. Laws of the definitions, each the contract
-//! of a function with nothing to do.
+//! What becomes of a network some time after the last change: on what the routers of a link agree, which groups each of
+//! them knows, when a group that its hosts left is gone, what each next hop holds, which of two winners of an assert is
+//! left, how long its loser stays one, whom a router joins over when its next hop changes, and which Prune of a source
+//! never takes effect. Laws of the definitions, each the contract of a function with nothing to do.
 #![tactic(auto)]
 
+pub mod asserts;
 pub mod elections;
+pub mod joins;
 pub mod members;
+pub mod networks;
 pub mod next_hops;
+pub mod overrides;
 pub mod runs;

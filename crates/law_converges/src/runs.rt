@@ -1,7 +1,16 @@
 //! Networks that meet the premises of the laws, computed by the kernel.
+ghost use Rattle.law_converges.specs.JoinedWaysRun.{ChainComesInTime, ChainComesToBeJoined};
 ghost use Rattle.law_converges.specs.LeftGroupRun.{SilentGroupEnds};
+ghost use Rattle.law_converges.specs.LinkAssertsRun.{FartherLoses, NearerAnswers};
 ghost use Rattle.law_converges.specs.LinkDrRun.{BothGreet, OneComesToBeDr};
+ghost use Rattle.law_converges.specs.LinkJoinsRun.{BothComeToBeHeld, BothJoinInTime};
+ghost use Rattle.law_converges.specs.LinkLosersRun.{FartherComesToLose, FartherStaysLoser, NearerAssertsInTime};
+ghost use Rattle.law_converges.specs.LinkMembersRun.{HostAnswersInTime, HostComesToBeKnown, HostStaysKnown};
+ghost use Rattle.law_converges.specs.LinkQuerierRun.{OneComesToQuery, QueriesComeInTime};
+ghost use Rattle.law_converges.specs.LinkRptRun.{OverrideComesInOrder, PruneHasNoEffect};
+ghost use Rattle.law_converges.specs.OneSenderRun.{FartherSendsNone};
 ghost use Rattle.law_converges.specs.NextHopRun.{OtherTakesOver, RouterTurns};
+ghost use Rattle.law_converges.specs.SettlesRun.{TwoLansAreQuiet, TwoLansSettle};
 
 /// The first router of the chain turns from one next hop to another.
 pub fn router_turns()
@@ -26,4 +35,99 @@ pub fn both_greet()
 /// So one of them is the DR of their link, and the other isn't.
 pub fn one_comes_to_be_dr()
     ensures { OneComesToBeDr }
+{}
+
+/// The query of one of two routers, each of which takes itself for the querier of their link, comes to the other.
+pub fn queries_come_in_time()
+    ensures { QueriesComeInTime }
+{}
+
+/// So in the end it alone is the querier.
+pub fn one_comes_to_query()
+    ensures { OneComesToQuery }
+{}
+
+/// A host answers the query of the first of two routers at its link, as the second one hears.
+pub fn host_answers_in_time()
+    ensures { HostAnswersInTime }
+{}
+
+/// So the second one comes to know the group.
+pub fn host_comes_to_be_known()
+    ensures { HostComesToBeKnown }
+{}
+
+/// And from then on it goes on to know it, until 2 d after the next query at least.
+pub fn host_stays_known()
+    ensures { HostStaysKnown }
+{}
+
+/// Of two routers that won the assert of a group on their link the one nearer to the RP hears the other's Assert.
+pub fn nearer_answers()
+    ensures { NearerAnswers }
+{}
+
+/// So it answers, and by the delivery of its answer the other one has lost.
+pub fn farther_loses()
+    ensures { FartherLoses }
+{}
+
+/// The Joins of the first two routers of the chain come to the next hop of each in time.
+pub fn both_join_in_time()
+    ensures { BothJoinInTime }
+{}
+
+/// So each next hop comes to hold what is joined over it.
+pub fn both_come_to_be_held()
+    ensures { BothComeToBeHeld }
+{}
+
+/// A router in front of two others begins to want a group that neither holds, and what each joins comes in time.
+pub fn chain_comes_in_time()
+    ensures { ChainComesInTime }
+{}
+
+/// So in the end each of the two holds it.
+pub fn chain_comes_to_be_joined()
+    ensures { ChainComesToBeJoined }
+{}
+
+/// The Join(S,G,rpt) of one router of a link comes to the RP there after another's Prune, and soon.
+pub fn override_comes_in_order()
+    ensures { OverrideComesInOrder }
+{}
+
+/// So the Prune never takes effect.
+pub fn prune_has_no_effect()
+    ensures { PruneHasNoEffect }
+{}
+
+/// The nearer one's next Assert comes to the farther one within a second.
+pub fn nearer_asserts_in_time()
+    ensures { NearerAssertsInTime }
+{}
+
+/// So the farther one, which took itself for the winner, has lost from then on.
+pub fn farther_comes_to_lose()
+    ensures { FartherComesToLose }
+{}
+
+/// And it stays the loser.
+pub fn farther_stays_loser()
+    ensures { FartherStaysLoser }
+{}
+
+/// So it sends a packet no longer that it sent before.
+pub fn farther_sends_none()
+    ensures { FartherSendsNone }
+{}
+
+/// On two LANs Hellos, queries, a host's answers and a Join come in time.
+pub fn two_lans_are_quiet()
+    ensures { TwoLansAreQuiet }
+{}
+
+/// So at the end each has one DR and one querier, its routers know its host's group, and the RP holds what is joined.
+pub fn two_lans_settle()
+    ensures { TwoLansSettle }
 {}

@@ -2,7 +2,7 @@
 use Rattle.std.{proofs.Common.{◌≡◌, ◌==◌, ℕ, Bool, true, false, cond, ◌&&◌, ◌||◌, [], ◌∷◌, map, Option, Some, is_none, is_some, refl, sym, ap, ◌∙◌, eq-eqb, arith}, specs.{Cmp.Derive.both_true, Option.option_map_or}}
 use Rattle.pim_ip.{specs.declared.addr.Addr.Addr}
 use Rattle.pim_types.{specs.{declared.fact.{AssertMetric.AssertMetric, AssertRow.AssertRow, DownstreamRow.DownstreamRow, Key.Key, RegisterRow.RegisterRow, SourceRow.SourceRow}, Keys.{group_in, names_source, rpt_key, same_key, source_key, star_key}}, proofs.Keys.same_key_same}
-use Rattle.pim_model.{specs.{Receivers.{is_exclude, local_receiver_include}, Reach.{alike_where, is_same_for, names_star}, Rows.{same_assert, same_downstream, same_group_record, same_metric, same_register, same_rows, same_source, same_source_record}, Sets.is_winner, State.State, Tables.{Table, rows_where}, Unicast.{route, rp_of, rp_route}}}
+use Rattle.pim_model.{specs.{Receivers.{is_exclude, local_receiver_include}, Reach.{alike_where, agrees_for_source, names_star}, Rows.{same_assert, same_downstream, same_group_record, same_metric, same_register, same_rows, same_source, same_source_record}, Sets.is_winner, State.State, Tables.{Table, rows_where}, Unicast.{route, rp_of, rp_route}}}
 use Rattle.law_settled.{proofs.ListLaws.filter_within}
 use Rattle.law_events.{specs.{Locality.AgreesOn, Scopes.{reads, scope}, Named.is_source_named}, proofs.{SharedMacros.{route_local, rp_of_local, rp_route_local}, SameRows.{IsOfCut, of_asserts, of_downstream, of_registers, of_source_records, of_sources}, SourceMacros.{ReadsSource, cut_kept, cut_kind, cut_register, cut_source, local_include_local}, StarMacros.{cut_assert, is_exclude_local}, UntoldKeys.same_by_scope, Reached.alike_is_unnamed, NamedSameRows.alike_at, Sights.{bool_itself, options_same, paths_same}, Unreached.{Alike, Around, at_source, at_star, at_tree}}}
 
@@ -109,12 +109,12 @@ record AlikeRows (g src : ℕ) (s t : State) : Type 0 where
 -- where the rows are alike and the routes the same, nothing differs
 alike_with_rows : (g src : ℕ) (s t : State) → AlikeRows g src s t
     → alike_where same_group_record (names_star g) s.group_records t.group_records ≡ true
-    → route s src ≡ route t src → rp_of s g ≡ rp_of t g → rp_route s g ≡ rp_route t g → is_same_for g src s t ≡ true
-unfolding is_same_for
+    → route s src ≡ route t src → rp_of s g ≡ rp_of t g → rp_route s g ≡ rp_route t g → agrees_for_source g src s t ≡ true
+unfolding agrees_for_source
 alike_with_rows g src s t rows groups path rp rp_path = grind (arith, paths_same, options_same)
 
 pub same_with_rows : (g src : ℕ) (s t : State) → SameStarRows g s t → SameSourceRows g src s t
-    → route s src ≡ route t src → rp_of s g ≡ rp_of t g → rp_route s g ≡ rp_route t g → is_same_for g src s t ≡ true
+    → route s src ≡ route t src → rp_of s g ≡ rp_of t g → rp_route s g ≡ rp_route t g → agrees_for_source g src s t ≡ true
 same_with_rows g src s t star rows path rp rp_path =
     grind (arith, alike_with_rows, rows_equal, bool_itself, downstream_itself, assert_itself, source_itself, register_itself)
 

@@ -1,7 +1,7 @@
 -- A named source is reached: if nothing of it differs from the opening in any of the states that the change passes
 -- through, nothing differs in the last of them.
 use Rattle.std.{proofs.Common.{◌≡◌, ℕ, zero, suc, ◌≤◌, Bool, true, false, not, ◌||◌, cond, List, [], ◌∷◌, filter, length, Option, refl, arith}, specs.{Cmp.second_so, List.{list_all, list_any}}}
-use Rattle.pim_model.{specs.{Asserts.{assert_forgotten, without_spt_bit}, Clearing.{Cleared, clear, clear_all, clearable_count, cleared, to_clear}, Reach.{differs_among, is_same_for, keeps_neighbours, passes, reach, to_next}, Registers.settle_registers, Repeat.{after_next, and_then, until_none}, State.State}}
+use Rattle.pim_model.{specs.{Asserts.{assert_forgotten, without_spt_bit}, Clearing.{Cleared, clear, clear_all, clearable_count, cleared, to_clear}, Reach.{differs_among, agrees_for_source, keeps_neighbours, passes, reach, to_next}, Registers.settle_registers, Repeat.{after_next, and_then, until_none}, State.State}}
 use Rattle.law_settled.{proofs.TurnLaws.kept_to_the_end}
 use Rattle.law_events.{specs.{Calm.is_calm, NamedLaws.IsUnreached, Named.{is_source_named, named, named_by}}, proofs.{Sights.{source_beside, source_sight}, Unreached.{Alike, Around, alike, alike_sees, around_kept, fact_same, kept_alive_same, register_same}, SameRows.flags_same}}
 
@@ -81,12 +81,12 @@ all_of_none p (x ∷ xs) e = grind (arith, all_of_none p xs)
 
 -- from the opening nothing differs
 none_differs : (g src : ℕ) (o changed : State) → differs_among g src (passes o changed) ≡ false
-    → is_same_for g src o (clear o changed).0 ≡ true
+    → agrees_for_source g src o (clear o changed).0 ≡ true
 unfolding differs_among passes
 none_differs g src o changed none =
-    end_passes o changed (is_same_for g src o)
-    (second_so (is_same_for g src o changed) (list_all (is_same_for g src o) (later o changed))
-    (all_of_none (is_same_for g src o) (changed ∷ later o changed)
+    end_passes o changed (agrees_for_source g src o)
+    (second_so (agrees_for_source g src o changed) (list_all (agrees_for_source g src o) (later o changed))
+    (all_of_none (agrees_for_source g src o) (changed ∷ later o changed)
     (neither _ (differs_among g src (changed ∷ later o changed)) none)))
 
 pub alike_is_unnamed : (g src : ℕ) (o a : State) → Around o a → Alike g src o a → is_source_named g src o a ≡ false
@@ -94,12 +94,12 @@ unfolding is_source_named
 alike_is_unnamed g src o a around parts =
     grind (arith, flags_same, fact_same, source_sight, alike_sees, source_beside, kept_alive_same, register_same)
 
-pub same_is_unnamed : (g src : ℕ) (o a : State) → Around o a → is_same_for g src o a ≡ true
+pub same_is_unnamed : (g src : ℕ) (o a : State) → Around o a → agrees_for_source g src o a ≡ true
     → is_source_named g src o a ≡ false
 same_is_unnamed g src o a around same = alike_is_unnamed g src o a around (alike g src o a same)
 
 -- of a source of which nothing differs the macros read the same, and its facts are the same but for their ends
-pub unreached_is_same : (g src : ℕ) (o a : State) → Around o a → is_same_for g src o a ≡ true → IsUnreached g src o a
+pub unreached_is_same : (g src : ℕ) (o a : State) → Around o a → agrees_for_source g src o a ≡ true → IsUnreached g src o a
 unreached_is_same g src o a around same =
     let parts : Alike g src o a = alike g src o a same in
     record {

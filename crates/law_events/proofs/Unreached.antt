@@ -1,7 +1,7 @@
 -- A source of which nothing differs reads the same.
 use Rattle.std.{proofs.Common.{◌≡◌, ℕ, Bool, true, false, map, Option, is_none, is_some, refl, sym, ap, ◌∙◌, eq-eqb, arith}, specs.Cmp.{first_so, second_so}}
 use Rattle.pim_types.{specs.{declared.{fact.{DownstreamRow.DownstreamRow, Key.Key, NeighbourRow.NeighbourRow, SourceRow.SourceRow}, path.Path.Path}, Keys.{names_source, neighbour_key, rpt_key, source_key, star_key}}}
-use Rattle.pim_model.{specs.{Neighbours.{is_dr, is_dr_among, is_neighbour, nbr, nbr_among}, Reach.{alike_where, is_same_for, keeps_neighbours, names_star}, Receivers.{is_exclude, is_exclude_among, local_receiver_include, local_receiver_include_among, source_record}, Rows.{same_assert, same_both, same_downstream, same_group_record, same_path, same_register, same_register_state, same_source, same_source_record}, Sets.{assert_source, assert_star, is_kept_alive, joins, joins_star, prunes, register_state, spt_bit, tunnel}, State.{State, address_among, value_among}, Tables.{Table, has_row, row_at, rows_on, same_option}, Unicast.{route, rp_of, rp_route}}}
+use Rattle.pim_model.{specs.{Neighbours.{is_dr, is_dr_among, is_neighbour, nbr, nbr_among}, Reach.{alike_where, agrees_for_source, keeps_neighbours, names_star}, Receivers.{is_exclude, is_exclude_among, local_receiver_include, local_receiver_include_among, source_record}, Rows.{same_assert, same_both, same_downstream, same_group_record, same_path, same_register, same_register_state, same_source, same_source_record}, Sets.{assert_source, assert_star, is_kept_alive, joins, joins_star, prunes, register_state, spt_bit, tunnel}, State.{State, address_among, value_among}, Tables.{Table, has_row, row_at, rows_on, same_option}, Unicast.{route, rp_of, rp_route}}}
 use Rattle.law_events.{specs.{Scopes.{only_priority, scope}, Sees.SeesSource}, proofs.{SharedMacros.{is_dr_local, is_neighbour_local}, SameRows.flags, NamedSameRows.{alike_at, ends_none, flag_alike, hop_same, loser_same, metric_same, options, paths, priorities_same, states_alike, there_alike, winner_same}}}
 
 -- ---- what all groups share
@@ -94,8 +94,8 @@ module _ (g src : ℕ) where
     unfolding has_row is_exclude is_exclude_among local_receiver_include local_receiver_include_among
     includes_at records i = grind (arith, there_alike, excludes_at)
 
-  pub alike : (s t : State) → is_same_for g src s t ≡ true → Alike s t
-  unfolding is_same_for
+  pub alike : (s t : State) → agrees_for_source g src s t ≡ true → Alike s t
+  unfolding agrees_for_source
   alike s t same =
       let e10 : _ = first_so _ (same_both same_path (rp_route s g) (rp_route t g)) same in
       let e9 : _ = first_so _ (same_option (rp_of s g) (rp_of t g)) e10 in
@@ -166,6 +166,6 @@ module _ (g src : ℕ) where
         grind (arith, dr_around, neighbour_around, there_alike, loser_same, winner_same, hop_same, nbr_around, flag_alike, pending_none, metric_same)
 
 pub unreached_sees : (g src : ℕ) (s t : State) → s.settings ≡ t.settings → s.configured ≡ t.configured
-    → keeps_neighbours s t ≡ true → is_same_for g src s t ≡ true → SeesSource g src s t
+    → keeps_neighbours s t ≡ true → agrees_for_source g src s t ≡ true → SeesSource g src s t
 unreached_sees g src s t settings configured kept same =
     alike_sees g src s t (around_kept s t settings configured kept) (alike g src s t same)

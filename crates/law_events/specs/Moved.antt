@@ -25,11 +25,15 @@ pub record IsRerouted (o c : State) : Type 0 where
   pub registers : (g src : ℕ) → has_same_routes g src o c ≡ true
       → rows_where (is_of_place g src) o.registers ≡ rows_where (is_of_place g src) c.registers
 
+-- besides, the interfaces that are up, and the queriers, are the same
+abbrev pub IsReroutedAlone : State → State → Type 0
+IsReroutedAlone o c = IsRerouted o c × (c.interfaces ≡ o.interfaces) × (c.queriers ≡ o.queriers)
+
 abbrev pub RoutesReroute : Type 0
-RoutesReroute = (s : State) (w : ℕ) (routes : List Route) → IsRerouted s (change s w (Accepted.Routes routes)).state
+RoutesReroute = (s : State) (w : ℕ) (routes : List Route) → IsReroutedAlone s (change s w (Accepted.Routes routes)).state
 
 abbrev pub RpsReroute : Type 0
-RpsReroute = (s : State) (w : ℕ) (ranges : List RpRange) → IsRerouted s (change s w (Accepted.Rps ranges)).state
+RpsReroute = (s : State) (w : ℕ) (ranges : List RpRange) → IsReroutedAlone s (change s w (Accepted.Rps ranges)).state
 
 -- ---- what is moved
 
@@ -63,7 +67,8 @@ is_touched_where_rerouted keys o c k =
     && (is_star k || has_same_routes (group_in k) (source_in k) o c
     || touching keys (source_key 0 (group_in k) (source_in k)))
 
--- a change of routes or RP ranges, and keys that touch all that it moves of which there are facts
+-- a change of routes, of RP ranges, or of which interfaces are up, and keys that touch all that it moves of which there are
+-- facts
 pub record MovesAlone (keys : List Key) (o c : State) : Type 0 where
   pub rerouted : IsRerouted o c
   pub taken : list_all (is_touched_where_rerouted keys o c) (fact_keys o) ≡ true

@@ -127,13 +127,13 @@ pub fn same_masks()
 {}
 
 /// New routes change the routes alone.
-#[tactic(auto, using(crate::proofs::Rerouted::routes_reroute))]
+#[tactic(auto, using(crate::proofs::Rerouted::routes_reroute_alone))]
 pub fn routes_reroute()
     ensures { RoutesReroute }
 {}
 
 /// New RP ranges change the RP ranges, and the registers of what they move.
-#[tactic(auto, using(crate::proofs::Rerouted::rps_reroute))]
+#[tactic(auto, using(crate::proofs::Rerouted::rps_reroute_alone))]
 pub fn rps_reroute()
     ensures { RpsReroute }
 {}

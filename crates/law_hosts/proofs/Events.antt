@@ -8,7 +8,7 @@ use Rattle.pim_model.{specs.{declared.accepted.Accepted.Accepted, Asserts.{asser
 use Rattle.law_settled.{proofs.{ListLaws.{by_cond, each_filter}, RowLaws.row_kept, UnchangedLaws.{full_or_taken, taken_done}, SettledStates.settled_is_lawful}, specs.Ready.IsSettled}
 use Rattle.law_streams.{specs.Copies.happens, proofs.{Same.{Rows, assert_same, here_same, hello_same, joined_same, register_stop_same, seen_same, settled_same, spt_same}, Climbs.swapped}}
 use Rattle.igmp_older.{specs.Open.IsOpen, proofs.OpenLaws.{Tables, is_here, lower_group_open, lower_sources_open, report_open, same_open, tables}}
-use Rattle.law_hosts.{specs.Staying.LeavesOpen, proofs.Firings.time_keeps}
+use Rattle.law_hosts.{specs.Staying.KeepsOpen, proofs.Firings.time_keeps}
 
 module _ (t i g : ℕ) where
   abbrev Open : State → Type 0
@@ -70,7 +70,7 @@ module _ (t i g : ℕ) where
       lowered_open (cond (is_lower_querier s j from) elected s) j q off
       (by_cond Open (is_lower_querier s j from) elected s (same_tables s elected (elected_tables s j q.robustness (code_value q.interval_code)) f) f)
 
-  change_open : (s : State) (w : ℕ) (a : Accepted) → Open s → LeavesOpen t i g s (Some a) → Open (change s w a).state
+  change_open : (s : State) (w : ℕ) (a : Accepted) → Open s → KeepsOpen t i g s (Some a) → Open (change s w a).state
   unfolding change iface_up querier_up querying rps_replaced
   change_open s w (Accepted.Advance moment) f off = f
   change_open s w (Accepted.Up j) f off = same_tables s _ refl f
@@ -91,30 +91,30 @@ module _ (t i g : ℕ) where
 -- ---- any event
 
 module _ (t i g : ℕ) (s : State) (rest : IsSettled s) (f : IsOpen t i g s) where
-  taken_open : (w : ℕ) (a : Accepted) → LeavesOpen t i g s (Some a) → IsOpen t i g (taken s w a).state
+  taken_open : (w : ℕ) (a : Accepted) → KeepsOpen t i g s (Some a) → IsOpen t i g (taken s w a).state
   unfolding taken done
   taken_open w (Accepted.Advance moment) off =
       time_keeps t i g moment off w s (record { open_there = f; lawful = settled_is_lawful s rest })
   taken_open w a off = done_open w a off
     where
-      done_open : (w : ℕ) (a : Accepted) → LeavesOpen t i g s (Some a) → IsOpen t i g (done s w (change s w a)).state
+      done_open : (w : ℕ) (a : Accepted) → KeepsOpen t i g s (Some a) → IsOpen t i g (done s w (change s w a)).state
       done_open w a off =
           same_open t i g (change s w a).state (done s w (change s w a)).state
           (rows_tables t i g (change s w a).state (done s w (change s w a)).state (settled_same s ((change s w a).state, (change s w a).messages) w))
           (change_open t i g s w a f off)
 
-  full_open : (w : ℕ) (a : Accepted) (b : Bool) → LeavesOpen t i g s (if_done (full_or_taken s w a b).answer (Ok a))
+  full_open : (w : ℕ) (a : Accepted) (b : Bool) → KeepsOpen t i g s (if_done (full_or_taken s w a b).answer (Ok a))
       → IsOpen t i g (full_or_taken s w a b).state
   full_open w a true off = f
   full_open w a false off =
-      taken_open w a (subst (λ (x : Result Verdict Refusal). LeavesOpen t i g s (if_done x (Ok a))) (taken_done s w a) off)
+      taken_open w a (subst (λ (x : Result Verdict Refusal). KeepsOpen t i g s (if_done x (Ok a))) (taken_done s w a) off)
 
-  concluded_open : (w : ℕ) (j : Judged) → LeavesOpen t i g s (if_done (concluded s (taken_unless_full s w) j).answer j)
+  concluded_open : (w : ℕ) (j : Judged) → KeepsOpen t i g s (if_done (concluded s (taken_unless_full s w) j).answer j)
       → IsOpen t i g (concluded s (taken_unless_full s w) j).state
   unfolding taken_unless_full
   concluded_open w j off = grind (arith, full_open)
 
-pub event_leaves_open : (t i g : ℕ) (s : State) (e : Event) → IsSettled s → IsOpen t i g s → LeavesOpen t i g s (done_as (happens s e))
+pub event_keeps_open : (t i g : ℕ) (s : State) (e : Event) → IsSettled s → IsOpen t i g s → KeepsOpen t i g s (done_as (happens s e))
     → IsOpen t i g (step s e).state
 unfolding step done_as
-event_leaves_open t i g s e rest f off = concluded_open t i g s rest f e.draw (judged s e.kind) off
+event_keeps_open t i g s e rest f off = concluded_open t i g s rest f e.draw (judged s e.kind) off

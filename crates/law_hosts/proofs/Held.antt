@@ -6,7 +6,7 @@ use Rattle.igmp_wire.{specs.{Values.Record, declared.report.RecordType.RecordTyp
 use Rattle.pim_model.{specs.{declared.accepted.Accepted.Accepted, Cause.{done_as, if_done}, Judging.{Judged, judged}, Querier.query_end, Receivers.{local_receiver_exclude, local_receiver_star}, State.State, Step.step, Tables.{Table, has_row}}}
 use Rattle.law_settled.{proofs.{ListLaws.each_both, Steps.step_is_settled}, specs.Ready.IsSettled}
 use Rattle.igmp_older.{specs.{Joined.{Both, event_given, joined, joined_step, kind_given, present_end, rows_of}, Open.{IsMild, IsMildAbout, IsMildHere, IsOpen}, Presence.timers_at, declared.mode.PresentRow.PresentRow}, proofs.{LiveLaws.live_there, OpenLaws.open_is_served}}
-use Rattle.law_hosts.{specs.{Held.{AllMayHold, IsHeld, MayHold, TakenHolds, knows_until}, Staying.LeavesOpen}, proofs.{Events.event_leaves_open, Judged.{Barred, IsBarred, all_barred}, Known.{older_mode, stays_known}}}
+use Rattle.law_hosts.{specs.{Held.{AllMayHold, IsHeld, MayHold, TakenHolds, knows_until}, Staying.KeepsOpen}, proofs.{Events.event_keeps_open, Judged.{Barred, IsBarred, all_barred}, Known.{older_mode, stays_known}}}
 
 pub still_settled : (b : Both) (e : Event) → IsSettled b.state → IsSettled (joined_step b e).1.state
 unfolding joined_step
@@ -30,10 +30,10 @@ module _ (t i g : ℕ) where
         → AllByRecursion (IsMildHere t i g (query_end s j.number) (present_end s j.number) j.number) records
     report_leaves j records barred answered = grind (arith, eqb-true, each_both, stronger, elsewhere)
 
-    accepted_leaves : (a : Accepted) → Barred t i g a → TakenHolds t i g s (Some a) → LeavesOpen t i g s (Some a)
+    accepted_leaves : (a : Accepted) → Barred t i g a → TakenHolds t i g s (Some a) → KeepsOpen t i g s (Some a)
     accepted_leaves a f h = grind (arith, report_leaves)
 
-    done_leaves : (answer : Result Verdict Refusal) (j : Judged) → IsBarred t i g j → TakenHolds t i g s (if_done answer j) → LeavesOpen t i g s (if_done answer j)
+    done_leaves : (answer : Result Verdict Refusal) (j : Judged) → IsBarred t i g j → TakenHolds t i g s (if_done answer j) → KeepsOpen t i g s (if_done answer j)
     done_leaves answer j f h = grind (arith, accepted_leaves)
 
   -- an open group has a record
@@ -41,9 +41,9 @@ module _ (t i g : ℕ) where
   unfolding has_row
   record_there s f = grind arith
 
-  pub event_holds : (b : Both) (e : Event) → IsSettled b.state → IsHeld t i g b → MayHold t i g b e → IsHeld t i g (joined_step b e).1
+  pub event_keeps_held : (b : Both) (e : Event) → IsSettled b.state → IsHeld t i g b → MayHold t i g b e → IsHeld t i g (joined_step b e).1
   unfolding joined_step event_given done_as
-  event_holds b e rest held may =
+  event_keeps_held b e rest held may =
       let given : Event = event_given b e in
       let groups : Table GroupRecordRow = b.state.group_records in
       let counts : knows_until t (timers_at (rows_of b) i g) ≡ true =
@@ -54,18 +54,18 @@ module _ (t i g : ℕ) where
       let some : 0 < t = grind (arith, nat_tests, may.before) in
       let after : State = (step b.state given).state in
       let stays : IsOpen t i g after =
-      event_leaves_open t i g b.state given rest held.open_there
+      event_keeps_open t i g b.state given rest held.open_there
       (done_leaves b.state may.whole (step b.state given).answer (judged b.state (kind_given b e.kind)) barred may.taken) in
       record {
         open_there = stays;
         known = stays_known t i g b after e.kind (step b.state given).answer may.whole some may.kind (record_there after stays) held.known;
       }
 
-  pub run_holds : (b : Both) (es : List Event) → IsSettled b.state → IsHeld t i g b → AllMayHold t i g b es → IsHeld t i g (joined b es).1
+  pub run_keeps_held : (b : Both) (es : List Event) → IsSettled b.state → IsHeld t i g b → AllMayHold t i g b es → IsHeld t i g (joined b es).1
   unfolding joined
-  run_holds b [] rest held may = held
-  run_holds b (e ∷ es) rest held may =
-      run_holds (joined_step b e).1 es (still_settled b e rest) (event_holds b e rest held may.0) may.1
+  run_keeps_held b [] rest held may = held
+  run_keeps_held b (e ∷ es) rest held may =
+      run_keeps_held (joined_step b e).1 es (still_settled b e rest) (event_keeps_held b e rest held may.0) may.1
 
   pub held_is_served : (b : Both) → IsHeld t i g b
       → (local_receiver_star b.state g i ≡ true) × ((src : ℕ) → local_receiver_exclude b.state g src i ≡ false)

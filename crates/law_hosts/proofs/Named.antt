@@ -7,7 +7,7 @@ use Rattle.igmp_wire.{specs.{Messages.igmp_reading, Values.Record, declared.view
 use Rattle.pim_model.{specs.{declared.accepted.Accepted.Accepted, Cause.if_done, Judging.{Judged, advance_judged, assert_judged, data_judged, down_judged, frame_judged, hello_judged, igmp_judged, igmp_message_judged, ignore_if, join_prune_judged, judged, of_read, packet_judged, pim_judged, pim_message_judged, pim_to_me_judged, refuse_if, register_judged, register_stop_judged, routes_judged, rps_judged, unicast_judged, unicast_packet_judged, up_judged, ◌>>◌}, State.State, Tables.Table}}
 use Rattle.law_settled.{proofs.ListLaws.by_cond}
 use Rattle.igmp_older.{specs.{Naming.{groups_named, groups_of_packet, groups_read}, Translation.{Translation, message_of, message_translated, of_reading, older_translated, packet_given, packet_translated, read_translated, report_translated, translation}, declared.{mode.{Mode.Mode, PresentRow.PresentRow}, older.Older.Older, setting.OlderHosts.OlderHosts}}, proofs.TakenLaws.{IsGivable, message_reads, packet_reads}}
-use Rattle.law_hosts.{specs.Staying.LeavesTimer}
+use Rattle.law_hosts.{specs.Staying.KeepsTimer}
 
 -- none of the groups, on interface j, is the group on interface i
 abbrev pub Off : ℕ → ℕ → ℕ → List ℕ → Type 0
@@ -16,12 +16,12 @@ Off i g j gs = AllByRecursion (λ (h : ℕ). ((j == i) && (h == g)) ≡ false) g
 module _ (t i g : ℕ) where
   abbrev pub Accepts : Judged → Type 0
   Accepts (Err stop) = Unit {0}
-  Accepts (Ok a) = LeavesTimer t i g (Some a)
+  Accepts (Ok a) = KeepsTimer t i g (Some a)
 
   pub record IsLeft (r : Judged) : Type 0 where
     pub accepts : Accepts r
 
-  accepted : (a : Accepted) → LeavesTimer t i g (Some a) → IsLeft (Ok a)
+  accepted : (a : Accepted) → KeepsTimer t i g (Some a) → IsLeft (Ok a)
   accepted a f = record { accepts = f }
 
   stops : (stop : Stop) → IsLeft (Err stop)
@@ -40,7 +40,7 @@ module _ (t i g : ℕ) where
   cond_then b x y f h = grind arith
 
   -- what was done was accepted
-  pub left_done : (answer : Result Verdict Refusal) (r : Judged) → IsLeft r → LeavesTimer t i g (if_done answer r)
+  pub left_done : (answer : Result Verdict Refusal) (r : Judged) → IsLeft r → KeepsTimer t i g (if_done answer r)
   left_done answer r f = grind arith
 
   -- ---- a frame

@@ -9,7 +9,7 @@ use Rattle.law_streams.{specs.{Copies.happens, Joins.is_time}, proofs.{Made.step
 use Rattle.law_states.{specs.{Reload.config_of, ReloadLaws.{is_near_by, next_query_is_near}, Reloading.reload, History.{AreAccepted, Given, state_given}}, proofs.{Ground.reload_is_under, Queriers.next_query_is_near_anew, Rest.reload_leaves_rest, Histories.led_states_rest, NearStates.led_queries_are_near, NextQueries.{kept_near, next_query_stays_near}}}
 use Rattle.law_plane.{specs.Keeping.{keep, kept_until}, proofs.Keeps.{keep_by, keep_is_at_rest}}
 use Rattle.igmp_older.{specs.Open.runs_until}
-use Rattle.law_hosts.{specs.{Staying.LeavesTimer, Members.{ForAnswer, ForQuery, MemberKeepsItsRecord, Waiting, after_time, answers, answers_before, answers_still, asked_by, in_time, is_answered, leaves, margin, may_be_given, may_happen, may_reload, next_general, response, waiting_after, waiting_given}}, proofs.{Stays.event_leaves_timer, Done.not_done, Queries.{Queries, done_next, leaves_next, next_in, time_keeps, time_queries}, Reloads.{Reloaded, reload_leaves}, Reports.done_end}}
+use Rattle.law_hosts.{specs.{Staying.KeepsTimer, Members.{ForAnswer, ForQuery, MemberKeepsItsRecord, Waiting, after_time, answers, answers_before, answers_still, asked_by, in_time, is_answered, leaves, margin, may_be_given, may_happen, may_reload, next_general, response, waiting_after, waiting_given}}, proofs.{Stays.event_keeps_timer, Done.not_done, Queries.{Queries, done_next, leaves_next, next_in, time_keeps, time_queries}, Reloads.{Reloaded, reload_leaves}, Reports.done_end}}
 
 -- ---- numbers
 
@@ -106,11 +106,11 @@ module _ (d i g : ℕ) where
     abbrev then : State
     then = (step s e).state
 
-    end_stays : (t : ℕ) (o : Option Accepted) → done_as (happens s e) ≡ o → runs_until t (group_end s i g) ≡ true → LeavesTimer t i g o
+    end_stays : (t : ℕ) (o : Option Accepted) → done_as (happens s e) ≡ o → runs_until t (group_end s i g) ≡ true → KeepsTimer t i g o
         → runs_until t (group_end then i g) ≡ true
     end_stays t o was runs off =
         subst (λ (end : Option ℕ). runs_until t end ≡ true)
-        (sym (event_leaves_timer t i g s e rest runs (subst (λ (x : Option Accepted). LeavesTimer t i g x) (sym was) off))) runs
+        (sym (event_keeps_timer t i g s e rest runs (subst (λ (x : Option Accepted). KeepsTimer t i g x) (sym was) off))) runs
 
     next_stays : (a : Accepted) → done_as (happens s e) ≡ Some a → is_time a ≡ false → leaves_next i s a ≡ true
         → next_general then i ≡ next_general s i
@@ -119,7 +119,7 @@ module _ (d i g : ℕ) where
 
     -- neither the group timer nor the next general query moves
     stays : (x : Waiting) (a : Accepted) → Held s.settings x s → done_as (happens s e) ≡ Some a → is_time a ≡ false → leaves_next i s a ≡ true
-        → ((t : ℕ) → LeavesTimer t i g (Some a)) → Held s.settings x then
+        → ((t : ℕ) → KeepsTimer t i g (Some a)) → Held s.settings x then
     stays x a h was timeless off kept = record {
       next = h.next;
       queries = next_stays a was timeless off ∙ h.queries;

@@ -9,7 +9,7 @@ use Rattle.law_events.{proofs.Rows.row_at_cut}
 use Rattle.law_streams.{specs.Copies.happens, proofs.Same.{Rows, settled_same}}
 use Rattle.law_states.{specs.Reloading.{down_event, hellos_anew, queriers_under, reload, removals, replaced, row_under, under}}
 use Rattle.igmp_older.{specs.Open.runs_until}
-use Rattle.law_hosts.{specs.{Staying.LeavesTimer, Members.next_general}, proofs.{Stays.event_leaves_timer, Done.after_event, Queries.{done_next, next_in, settled_next}}}
+use Rattle.law_hosts.{specs.{Staying.KeepsTimer, Members.next_general}, proofs.{Stays.event_keeps_timer, Done.after_event, Queries.{done_next, next_in, settled_next}}}
 
 module _ (i g : ℕ) where
   -- what is left: the next general query, and a group timer
@@ -34,7 +34,7 @@ module _ (i g : ℕ) where
     unfolding done_as judged down_judged
     is_down s = judged_down (step s (down_event w j)).answer (nat_le (iface_count s) j) (not (is_up s j))
 
-    away : (t : ℕ) (o : Option Accepted) → IsDown o → LeavesTimer t i g o
+    away : (t : ℕ) (o : Option Accepted) → IsDown o → KeepsTimer t i g o
     away t None f = tt
     away t (Some (Accepted.Down k)) f = subst (λ (n : ℕ). (n == i) ≡ false) (sym f) off
     away t (Some a) f = absurd f
@@ -63,7 +63,7 @@ module _ (i g : ℕ) where
       let off : (n == i) ≡ false = first_apart n m lt in
       let u : State = (step s (down_event w n)).state in
       let end : group_end u i g ≡ group_end s i g =
-      event_leaves_timer t i g s (down_event w n) rest runs (away w n off t (done_as (happens s (down_event w n))) (is_down w n off s)) in
+      event_keeps_timer t i g s (down_event w n) rest runs (away w n off t (done_as (happens s (down_event w n))) (is_down w n off s)) in
       let later : Left next u (ran u (map (down_event w) (range_with_len (n + 1) m))).1 =
       gone_left w t next m (n + 1) u (omega (arith, lt)) (step_is_settled s (down_event w n) rest) (down_next w n off s next is)
       (subst (λ (o : Option ℕ). runs_until t o ≡ true) (sym end) runs) in

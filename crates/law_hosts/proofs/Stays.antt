@@ -8,7 +8,7 @@ use Rattle.pim_model.{specs.{declared.accepted.Accepted.Accepted, Asserts.{asser
 use Rattle.law_settled.{proofs.{ListLaws.by_cond, RowLaws.row_kept, UnchangedLaws.{full_or_taken, taken_done}, SettledStates.settled_is_lawful}, specs.Ready.IsSettled}
 use Rattle.law_streams.{specs.Copies.happens, proofs.{Same.{Rows, assert_same, here_same, hello_same, joined_same, register_stop_same, seen_same, settled_same, spt_same}, Climbs.swapped}}
 use Rattle.igmp_older.{specs.Open.runs_until}
-use Rattle.law_hosts.{specs.Staying.LeavesTimer, proofs.Timers.{here, lower_row, lower_sources_row, report_row, row, same_row, time_keeps}}
+use Rattle.law_hosts.{specs.Staying.KeepsTimer, proofs.Timers.{here, lower_row, lower_sources_row, report_row, row, same_row, time_keeps}}
 
 module _ (i g : ℕ) where
   abbrev Groups : State → Table GroupRecordRow
@@ -58,7 +58,7 @@ module _ (i g : ℕ) where
   by_table a b e = ap (λ (rows : Table GroupRecordRow). row_at rows (star_key i g)) e
 
   module _ (t : ℕ) where
-    change_row : (s : State) (w : ℕ) (a : Accepted) → LeavesTimer t i g (Some a) → row i g (change s w a).state ≡ row i g s
+    change_row : (s : State) (w : ℕ) (a : Accepted) → KeepsTimer t i g (Some a) → row i g (change s w a).state ≡ row i g s
     unfolding change iface_up querier_up querying rps_replaced
     change_row s w (Accepted.Advance moment) off = refl
     change_row s w (Accepted.Up j) off = refl
@@ -79,32 +79,32 @@ module _ (i g : ℕ) where
 -- ---- any event
 
 module _ (t i g : ℕ) (s : State) (rest : IsSettled s) (r : GroupRecordRow) (there : row i g s ≡ Some r) (runs : runs_until t r.end ≡ true) where
-  taken_row : (w : ℕ) (a : Accepted) → LeavesTimer t i g (Some a) → row i g (taken s w a).state ≡ row i g s
+  taken_row : (w : ℕ) (a : Accepted) → KeepsTimer t i g (Some a) → row i g (taken s w a).state ≡ row i g s
   unfolding taken done
   taken_row w (Accepted.Advance moment) off =
       time_keeps t i g moment off r runs w s (record { there = there; lawful = settled_is_lawful s rest }) ∙ sym there
   taken_row w a off = done_row w a off
     where
-      done_row : (w : ℕ) (a : Accepted) → LeavesTimer t i g (Some a) → row i g (done s w (change s w a)).state ≡ row i g s
+      done_row : (w : ℕ) (a : Accepted) → KeepsTimer t i g (Some a) → row i g (done s w (change s w a)).state ≡ row i g s
       done_row w a off =
           same_row i g (change s w a).state (done s w (change s w a)).state
           (of_rows i g (change s w a).state (done s w (change s w a)).state (settled_same s ((change s w a).state, (change s w a).messages) w))
           ∙ change_row i g t s w a off
 
-  full_row : (w : ℕ) (a : Accepted) (b : Bool) → LeavesTimer t i g (if_done (full_or_taken s w a b).answer (Ok a))
+  full_row : (w : ℕ) (a : Accepted) (b : Bool) → KeepsTimer t i g (if_done (full_or_taken s w a b).answer (Ok a))
       → row i g (full_or_taken s w a b).state ≡ row i g s
   full_row w a b off = grind (arith, taken_row, taken_done)
 
-  concluded_row : (w : ℕ) (j : Judged) → LeavesTimer t i g (if_done (concluded s (taken_unless_full s w) j).answer j)
+  concluded_row : (w : ℕ) (j : Judged) → KeepsTimer t i g (if_done (concluded s (taken_unless_full s w) j).answer j)
       → row i g (concluded s (taken_unless_full s w) j).state ≡ row i g s
   unfolding taken_unless_full
   concluded_row w j off = grind (arith, full_row)
 
 pub event_leaves_row : (t i g : ℕ) (s : State) (e : Event) (r : GroupRecordRow) → IsSettled s → row i g s ≡ Some r → runs_until t r.end ≡ true
-    → LeavesTimer t i g (done_as (happens s e)) → row i g (step s e).state ≡ row i g s
+    → KeepsTimer t i g (done_as (happens s e)) → row i g (step s e).state ≡ row i g s
 unfolding step done_as
 event_leaves_row t i g s e r rest there runs off = concluded_row t i g s rest r there runs e.draw (judged s e.kind) off
 
-pub event_leaves_timer : (t i g : ℕ) (s : State) (e : Event) → IsSettled s → runs_until t (group_end s i g) ≡ true
-    → LeavesTimer t i g (done_as (happens s e)) → group_end (step s e).state i g ≡ group_end s i g
-event_leaves_timer t i g s e rest runs off = grind (arith, row, event_leaves_row)
+pub event_keeps_timer : (t i g : ℕ) (s : State) (e : Event) → IsSettled s → runs_until t (group_end s i g) ≡ true
+    → KeepsTimer t i g (done_as (happens s e)) → group_end (step s e).state i g ≡ group_end s i g
+event_keeps_timer t i g s e rest runs off = grind (arith, row, event_leaves_row)

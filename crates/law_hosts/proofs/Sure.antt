@@ -6,7 +6,7 @@ use Rattle.pim_model.{specs.{Cause.{done_as, if_done}, Judging.{Judged, judged},
 use Rattle.law_settled.{proofs.{ListLaws.{each_both, each_filter_map, each_more}, FineTables.{Fine, fine_more, good_row}, RisingKeys.{IsBelow, Up, up_filter_map, up_put}}, specs.Ready.IsSettled}
 use Rattle.law_streams.{specs.Copies.happens}
 use Rattle.igmp_older.{specs.{Laws.nobody_known, Modes.{doubtful, look_by, row_by}, Open.runs_until, Presence.{Present, doubted_at, doubted_row, entry_after, looked, record_at, row_after}, declared.{mode.PresentRow.PresentRow, setting.OlderHosts.OlderHosts}}}
-use Rattle.law_hosts.{specs.{Staying.LeavesTimer, Sure.{IsSure, IsSureRow}}, proofs.{Named.{KindLeaves, Off, kind_left, left_done}, Stays.event_leaves_timer}}
+use Rattle.law_hosts.{specs.{Staying.KeepsTimer, Sure.{IsSure, IsSureRow}}, proofs.{Named.{KindLeaves, Off, kind_left, left_done}, Stays.event_keeps_timer}}
 
 abbrev pub Row : Type 0
 Row = Key × PresentRow
@@ -95,10 +95,10 @@ module _ (s : State) (e : Event) (rest : IsSettled s) where
 
   -- a row whose group timer the event leaves
   stays : (x : Row) → IsSureRow s x
-      → (nat_lt 0 (x.1).look ≡ true → LeavesTimer (x.1).look (iface_in x.0) (group_in x.0) (done_as (happens s e))) → IsSureRow after x
-  stays x f leaves = grind (arith, event_leaves_timer)
+      → (nat_lt 0 (x.1).look ≡ true → KeepsTimer (x.1).look (iface_in x.0) (group_in x.0) (done_as (happens s e))) → IsSureRow after x
+  stays x f leaves = grind (arith, event_keeps_timer)
 
-  pub by_kind : (t i g : ℕ) → KindLeaves t i g e.kind → LeavesTimer t i g (done_as (happens s e))
+  pub by_kind : (t i g : ℕ) → KindLeaves t i g e.kind → KeepsTimer t i g (done_as (happens s e))
   unfolding done_as
   by_kind t i g f = left_done t i g (step s e).answer (judged s e.kind) (kind_left t i g s e.kind f)
 
@@ -107,7 +107,7 @@ module _ (s : State) (e : Event) (rest : IsSettled s) where
       → IsSureRow after x
   stays_so x f leaves = stays x f (λ later. by_kind (x.1).look (iface_in x.0) (group_in x.0) (leaves later))
 
-  not_done : (answer : Result Verdict Refusal) (t i g : ℕ) (j : Judged) → (answer ≡ Ok Verdict.Done → ⊥) → LeavesTimer t i g (if_done answer j)
+  not_done : (answer : Result Verdict Refusal) (t i g : ℕ) (j : Judged) → (answer ≡ Ok Verdict.Done → ⊥) → KeepsTimer t i g (if_done answer j)
   not_done answer t i g j undone = grind arith
 
   -- an event that isn't done

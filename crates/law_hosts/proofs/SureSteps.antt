@@ -5,7 +5,7 @@ use Rattle.pim_model.{specs.{Querier.group_end, State.State, Step.step, Tables.{
 use Rattle.law_settled.{proofs.{ListLaws.{each_both, each_more}, FineTables.{Fine, fine_dropped, fine_more}, RisingKeys.{sorted_of_up, up_of_sorted, up_put}}, specs.Ready.IsSettled}
 use Rattle.law_streams.{proofs.Climbs.swapped}
 use Rattle.igmp_older.{specs.{Joined.{Both, bytes_given, event_given, joined, joined_step, kind_given, known_after, known_if, noted_if, older_of, present_end, rows_of}, Modes.{heard, is_report, row_by, runs}, Naming.groups_named, Open.runs_until, Presence.{Present, doubted, entry_after, forgotten, has_record, has_room, hosts_on, left, looked, noted_of, report_noted, row_after, timers_at}, Translation.{Translation, packet_given, translation}, declared.{mode.PresentRow.PresentRow, older.{Older.Older, OlderKind.OlderKind}}}, proofs.TakenLaws.givable}
-use Rattle.law_hosts.{specs.Sure.{IsSure, IsSureRow, timers_of}, proofs.{Begins.older_begins, Held.still_settled, Named.{KindLeaves, Off, given_names, older_names}, Stays.event_leaves_timer, Sure.{Row, advance_leaves, all_doubted, all_stay, by_kind, looked_sure, none_at, off_by, only_put, stays_so, sure_closed}}}
+use Rattle.law_hosts.{specs.Sure.{IsSure, IsSureRow, timers_of}, proofs.{Begins.older_begins, Held.still_settled, Named.{KindLeaves, Off, given_names, older_names}, Stays.event_keeps_timer, Sure.{Row, advance_leaves, all_doubted, all_stay, by_kind, looked_sure, none_at, off_by, only_put, stays_so, sure_closed}}}
 
 -- ---- a packet
 
@@ -191,7 +191,7 @@ module _ (s : State) (e : Event) (rest : IsSettled s) (m : ℕ) (is : e.kind ≡
       let g : ℕ = group_in x.0 in
       timer_there (row_at groups (star_key i g)) (x.1).look
       (subst (λ (end : Option ℕ). runs_until (x.1).look end ≡ true)
-      (sym (event_leaves_timer (x.1).look i g s e rest (f.lasts later) (by_kind s e rest (x.1).look i g (advance_leaves s e rest m is (x.1).look i g before))))
+      (sym (event_keeps_timer (x.1).look i g s e rest (f.lasts later) (by_kind s e rest (x.1).look i g (advance_leaves s e rest m is (x.1).look i g before))))
       (f.lasts later))
 
   one_row : (x : Row) → IsSureRow s x → (xs ys : Table PresentRow) → map timers_of xs ≡ map timers_of ys

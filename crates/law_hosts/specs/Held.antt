@@ -40,8 +40,8 @@ pub record MayHold (t i g : ℕ) (b : Both) (e : Event) : Type 0 where
   pub taken : TakenHolds t i g b.state (done_as (happens b.state (event_given b e)))
 
 -- A group that is held is held after an event of `MayHold`.
-abbrev pub EventHolds : Type 0
-EventHolds =
+abbrev pub EventKeepsHeld : Type 0
+EventKeepsHeld =
     (t i g : ℕ) (b : Both) (e : Event) → IsSettled b.state → IsHeld t i g b → MayHold t i g b e → IsHeld t i g (joined_step b e).1
 
 -- Each of a list of events is one of `MayHold`.
@@ -49,8 +49,8 @@ abbrev pub AllMayHold : (t i g : ℕ) → Both → List Event → Type 0
 AllMayHold t i g b [] = Unit {0}
 AllMayHold t i g b (e ∷ es) = MayHold t i g b e × AllMayHold t i g (joined_step b e).1 es
 
-abbrev pub RunHolds : Type 0
-RunHolds =
+abbrev pub RunKeepsHeld : Type 0
+RunKeepsHeld =
     (t i g : ℕ) (b : Both) (es : List Event) → IsSettled b.state → IsHeld t i g b → AllMayHold t i g b es
     → IsHeld t i g (joined b es).1
 

@@ -9,32 +9,32 @@ use Rattle.igmp_older.{specs.{Joined.present_end, Open.{IsMildHere, IsOpen, runs
 
 -- what may close a group on interface i before t: time that passes to t, the interface going down, a query of the group
 -- with S clear, and a report that isn't mild
-abbrev pub LeavesOpen : ℕ → ℕ → ℕ → State → Option Accepted → Type 0
-LeavesOpen t i g s (Some (Accepted.Advance moment)) = nat_le t moment ≡ false
-LeavesOpen t i g s (Some (Accepted.Down j)) = (j.number == i) ≡ false
-LeavesOpen t i g s (Some (Accepted.Query j from q)) = ((j.number == i) && ((q.group == g) && not q.suppress)) ≡ false
-LeavesOpen t i g s (Some (Accepted.Report j records)) =
+abbrev pub KeepsOpen : ℕ → ℕ → ℕ → State → Option Accepted → Type 0
+KeepsOpen t i g s (Some (Accepted.Advance moment)) = nat_le t moment ≡ false
+KeepsOpen t i g s (Some (Accepted.Down j)) = (j.number == i) ≡ false
+KeepsOpen t i g s (Some (Accepted.Query j from q)) = ((j.number == i) && ((q.group == g) && not q.suppress)) ≡ false
+KeepsOpen t i g s (Some (Accepted.Report j records)) =
     AllByRecursion (IsMildHere t i g (query_end s j.number) (present_end s j.number) j.number) records
-LeavesOpen t i g s o = Unit {0}
+KeepsOpen t i g s o = Unit {0}
 
--- A group that is open is open after an event of `LeavesOpen`.
-abbrev pub EventLeavesOpen : Type 0
-EventLeavesOpen =
-    (t i g : ℕ) (s : State) (e : Event) → IsSettled s → IsOpen t i g s → LeavesOpen t i g s (done_as (happens s e))
+-- A group that is open is open after an event of `KeepsOpen`.
+abbrev pub EventKeepsOpen : Type 0
+EventKeepsOpen =
+    (t i g : ℕ) (s : State) (e : Event) → IsSettled s → IsOpen t i g s → KeepsOpen t i g s (done_as (happens s e))
     → IsOpen t i g (step s e).state
 
 -- what may change the group timer of a group on interface i, or end it before t: time that passes to t, the interface
 -- going down, a query of the group with S clear, and a report that names the group
-abbrev pub LeavesTimer : ℕ → ℕ → ℕ → Option Accepted → Type 0
-LeavesTimer t i g (Some (Accepted.Advance moment)) = nat_le t moment ≡ false
-LeavesTimer t i g (Some (Accepted.Down j)) = (j.number == i) ≡ false
-LeavesTimer t i g (Some (Accepted.Query j from q)) = ((j.number == i) && ((q.group == g) && not q.suppress)) ≡ false
-LeavesTimer t i g (Some (Accepted.Report j records)) =
+abbrev pub KeepsTimer : ℕ → ℕ → ℕ → Option Accepted → Type 0
+KeepsTimer t i g (Some (Accepted.Advance moment)) = nat_le t moment ≡ false
+KeepsTimer t i g (Some (Accepted.Down j)) = (j.number == i) ≡ false
+KeepsTimer t i g (Some (Accepted.Query j from q)) = ((j.number == i) && ((q.group == g) && not q.suppress)) ≡ false
+KeepsTimer t i g (Some (Accepted.Report j records)) =
     AllByRecursion (λ (r : Record). ((j.number == i) && (r.group == g)) ≡ false) records
-LeavesTimer t i g o = Unit {0}
+KeepsTimer t i g o = Unit {0}
 
--- A group timer that runs until t at least is as it was after an event of `LeavesTimer`.
-abbrev pub EventLeavesTimer : Type 0
-EventLeavesTimer =
+-- A group timer that runs until t at least is as it was after an event of `KeepsTimer`.
+abbrev pub EventKeepsTimer : Type 0
+EventKeepsTimer =
     (t i g : ℕ) (s : State) (e : Event) → IsSettled s → runs_until t (group_end s i g) ≡ true
-    → LeavesTimer t i g (done_as (happens s e)) → group_end (step s e).state i g ≡ group_end s i g
+    → KeepsTimer t i g (done_as (happens s e)) → group_end (step s e).state i g ≡ group_end s i g

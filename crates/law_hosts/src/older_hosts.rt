@@ -1,31 +1,31 @@
 //! What holds of the groups of older hosts after every event. Laws of the definitions, each the contract of a function
 //! with nothing to do.
-ghost use Rattle.law_hosts.specs.Held.{EventHolds, HeldIsServed, OlderBegins, RunHolds};
-ghost use Rattle.law_hosts.specs.Staying.{EventLeavesOpen, EventLeavesTimer};
+ghost use Rattle.law_hosts.specs.Held.{EventKeepsHeld, HeldIsServed, OlderBegins, RunKeepsHeld};
+ghost use Rattle.law_hosts.specs.Staying.{EventKeepsOpen, EventKeepsTimer};
 ghost use Rattle.law_hosts.specs.Sure.{NobodyIsSure, RunIsSure, StepIsSure, TimeForgets};
 
 /// A group that is open stays open, but for what may close it.
-#[tactic(auto, using(crate::proofs::Events::event_leaves_open))]
-pub fn event_leaves_open()
-    ensures { EventLeavesOpen }
+#[tactic(auto, using(crate::proofs::Events::event_keeps_open))]
+pub fn event_keeps_open()
+    ensures { EventKeepsOpen }
 {}
 
 /// The group timer of a record is as it was, but for what may change it.
-#[tactic(auto, using(crate::proofs::Stays::event_leaves_timer))]
-pub fn event_leaves_timer()
-    ensures { EventLeavesTimer }
+#[tactic(auto, using(crate::proofs::Stays::event_keeps_timer))]
+pub fn event_keeps_timer()
+    ensures { EventKeepsTimer }
 {}
 
 /// A group of an older host stays held, but for what may end that.
-#[tactic(auto, using(crate::proofs::Held::event_holds))]
-pub fn event_holds()
-    ensures { EventHolds }
+#[tactic(auto, using(crate::proofs::Held::event_keeps_held))]
+pub fn event_keeps_held()
+    ensures { EventKeepsHeld }
 {}
 
 /// A group that is held is held after any list of events of `MayHold`.
-#[tactic(auto, using(crate::proofs::Held::run_holds))]
-pub fn run_holds()
-    ensures { RunHolds }
+#[tactic(auto, using(crate::proofs::Held::run_keeps_held))]
+pub fn run_keeps_held()
+    ensures { RunKeepsHeld }
 {}
 
 /// A held group is served from every source.

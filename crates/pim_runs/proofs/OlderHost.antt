@@ -4,7 +4,7 @@ use Rattle.igmp_wire.{specs.declared.report.RecordType.RecordType}
 use Rattle.pim_model.{specs.{Limits.config_test}}
 use Rattle.law_settled.{specs.Ready.IsSettled, proofs.Steps.{run_is_settled, step_is_settled}}
 use Rattle.igmp_older.{specs.{Joined.{bytes_given, event_given, joined, joined_step, kind_given, known_after, known_if}, Modes.{mode_of, row_by}, Naming.{groups_named, groups_of_packet}, Older.{kind_of, older_reading}, Presence.{doubted, forgotten, hosts_on, left, live_rows, looked, mode_at, report_noted, row_after, timers_at}, Translation.{are_left_whole, kept_of, message_translated, older_translated, packet_given, packet_translated, records_left, report_translated, translation}}}
-use Rattle.law_hosts.{specs.Held.AllMayHold, proofs.{Begins.older_begins, Held.run_holds}}
+use Rattle.law_hosts.{specs.Held.AllMayHold, proofs.{Begins.older_begins, Held.run_keeps_held}}
 use Rattle.pim_runs.{specs.{ServedChain.{asked_group, first, first_meets}, OlderHeld.{OlderHostBegins, OlderHostIsHeld, before, known, meanwhile, report_two, reports}}, proofs.OnLiterals.machine_on_literals}
 
 accepted : config_test first ≡ Ok tt
@@ -37,4 +37,4 @@ may_hold = (
 )
 
 pub older_host_is_held : OlderHostIsHeld
-older_host_is_held = run_holds 260000 0 asked_group known meanwhile settled_known older_host_begins may_hold
+older_host_is_held = run_keeps_held 260000 0 asked_group known meanwhile settled_known older_host_begins may_hold

@@ -4,7 +4,7 @@ use Rattle.pim_types.{specs.declared.{event.Event.Event, fact.JoinTimerRow.JoinT
 use Rattle.pim_model.{specs.{declared.accepted.Accepted.Accepted, Full.is_full, Limits.config_test, Network.{At, Deliver, Move, Network, Station, moved, network_ran, station_at}, State.opening}}
 use Rattle.law_events.{proofs.Rest.{opening_is_at_rest, run_is_at_rest}}
 use Rattle.law_streams.{specs.{Joins.{Hears, IsWritable, join_packet, join_value}, InTimeJoins.{Always, AreThere, ComeInTime, IsCovered, IsJoin, IsReady, Wants, entry_of, frame_of, prunes_of, time_at}, Shared.{ComesFrom, IsOnLink, IsSeenFrom, IsTakenFrom, frame_from}}, proofs.{Timed.run_is_timed, Computed.{at_another, no_others, none_new, none_pruned, one_other, stand, stands_there, timely, with_station, with_timer}, Pairs.joins_are_shared, Shared.frames_come_to_both}}
-use Rattle.pim_runs.{specs.{Words.advance, ServedChain.{asked_group, first, second, station}, InTime.{joined, late, started}, OnLink.{FramesAreInTime, JoinIsHeldBack, SharedStaysHeld, first_asked, other_address, pair, second_joined, sent, shares, three}}, proofs.{InTime.its_group, OnLiterals.machine_on_literals}}
+use Rattle.pim_runs.{specs.{Words.advance, ServedChain.{asked_group, first, second, station}, InTime.{joined, late, started}, OnLink.{JoinIsOverheardInTime, JoinIsHeldBack, SharedStaysHeld, first_asked, other_address, pair, second_joined, sent, shares, three}}, proofs.{InTime.its_group, OnLiterals.machine_on_literals}}
 
 abbrev nowhere : Station
 nowhere = record { links = []; state = opening first }
@@ -209,8 +209,8 @@ third_on_link = record {
 
 -- ---- all together
 
-pub frames_are_in_time : FramesAreInTime
-frames_are_in_time = (first_on_link, (second_on_link, (third_on_link, tt)))
+pub join_is_overheard_in_time : JoinIsOverheardInTime
+join_is_overheard_in_time = (first_on_link, (second_on_link, (third_on_link, tt)))
 
 pub join_is_held_back : JoinIsHeldBack
 unfolding machine_on_literals join_packet
@@ -228,6 +228,6 @@ shared_stays_held =
       upper_ready = second_ready;
       covered = covered;
       there = there;
-      in_time = frames_come_to_both joined asked_group late started sent pair three shares its_group (lit< tt) second_ready there frames_are_in_time;
+      in_time = frames_come_to_both joined asked_group late started sent pair three shares its_group (lit< tt) second_ready there join_is_overheard_in_time;
     })
     wants

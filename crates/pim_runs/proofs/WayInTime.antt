@@ -4,7 +4,7 @@ use Rattle.pim_types.{specs.declared.fact.JoinTimerRow.JoinTimerRow}
 use Rattle.pim_model.{specs.{declared.accepted.Accepted.Accepted, Full.is_full, Limits.config_test, Network.{At, Deliver, Move, Network, Station, moved, station_at}, State.opening}}
 use Rattle.law_events.{proofs.Rest.{opening_is_at_rest, run_is_at_rest}}
 use Rattle.law_streams.{specs.{Joins.{IsWritable, join_packet, join_value}, InTimeJoins.{Always, AreThere, ComeInTime, ComesBy, IsCovered, IsInTime, IsJoin, IsReady, IsUnlost, Wants, entry_of, frame_of, prunes_of, time_at}}, proofs.{Timed.run_is_timed, Computed.{at_another, joins_told, none_new, none_pruned, none_shared, stand, stands_there, timely, with_station, with_timer}, Pairs.way_stays_joined}}
-use Rattle.pim_runs.{specs.{InTime.{first_events, joined, late, pair, second_events, started}, ServedChain.{asked_group, first, second, station, third}, WayInTime.{WayIsInTime, WayStaysHeld, repeats_twice, third_events, three, upper_pair}, Words.advance}, proofs.OnLiterals.machine_on_literals}
+use Rattle.pim_runs.{specs.{InTime.{first_events, joined, late, pair, second_events, started}, ServedChain.{asked_group, first, second, station, third}, WayInTime.{ChainJoinsInTime, WayStaysHeld, repeats_twice, third_events, three, upper_pair}, Words.advance}, proofs.OnLiterals.machine_on_literals}
 
 abbrev nowhere : Station
 nowhere = record { links = []; state = opening first }
@@ -482,8 +482,8 @@ upper_comes_in_time = record {
   in_time = (upper_in_time_1, (upper_in_time_2, (upper_in_time_3, (upper_in_time_4, (upper_in_time_5, tt)))));
 }
 
-pub way_is_in_time : WayIsInTime
-way_is_in_time =
+pub chain_joins_in_time : ChainJoinsInTime
+chain_joins_in_time =
     (refl, lower_comes_in_time, lower_unlost, (refl, upper_comes_in_time, upper_unlost, tt))
 
 its_group : IsJoin joined asked_group
@@ -492,5 +492,5 @@ its_group = record { multicast = refl; goes_far = refl; rp_host = refl }
 
 pub way_stays_held : WayStaysHeld
 way_stays_held =
-    way_stays_joined joined asked_group late started three repeats_twice 0 (pair ∷ upper_pair ∷ []) its_group (lit< tt) way_is_in_time
+    way_stays_joined joined asked_group late started three repeats_twice 0 (pair ∷ upper_pair ∷ []) its_group (lit< tt) chain_joins_in_time
     wants

@@ -53,8 +53,8 @@ shares = At 2 (advance 61000) ∷ Deliver 1 0 1 7 ∷ Deliver 0 1 1 9 ∷ []
 abbrev pub sent : ℕ → ℕ
 sent number = 61000
 
-abbrev pub FramesAreInTime : Type 0
-FramesAreInTime = AreOnLink joined asked_group late started sent pair (length three.frames) three shares
+abbrev pub JoinIsOverheardInTime : Type 0
+JoinIsOverheardInTime = AreOnLink joined asked_group late started sent pair (length three.frames) three shares
 
 abbrev pub first_at_end : Station
 first_at_end =

@@ -43,8 +43,8 @@ StreamGoesOn =
     copies_in (outcome_of (step left (frame 1 sent_packet))) ≡ on_link 0 (copy_text (packet_of sent_packet)) ∷ []
 
 -- The host's report is the cause, under the number that its link had then: on interface 0, and on no other one.
-abbrev pub CauseIsRenumbered : Type 0
-CauseIsRenumbered =
+abbrev pub CauseHasOldNumber : Type 0
+CauseHasOldNumber =
     (has_cause (past_given [] (opening with_one_before) without_it) 0 0 asked_group sender ≡ true)
     × (has_cause (past_given [] (opening with_one_before) without_it) 0 1 asked_group sender ≡ false)
 

@@ -29,8 +29,8 @@ abbrev pub repeats_twice : List Move
 repeats_twice =
     At 0 (advance 61000) ∷ At 1 (advance 61000) ∷ Deliver 1 0 1 7 ∷ At 2 (advance 61000) ∷ Deliver 2 0 2 7 ∷ []
 
-abbrev pub WayIsInTime : Type 0
-WayIsInTime = IsWayUp joined asked_group late started three repeats_twice 0 (pair ∷ upper_pair ∷ [])
+abbrev pub ChainJoinsInTime : Type 0
+ChainJoinsInTime = IsWayUp joined asked_group late started three repeats_twice 0 (pair ∷ upper_pair ∷ [])
 
 abbrev pub WayStaysHeld : Type 0
 WayStaysHeld = AreHeld joined asked_group three repeats_twice (pair ∷ upper_pair ∷ [])

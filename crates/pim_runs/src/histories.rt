@@ -1,7 +1,7 @@
 //! Routers with a history of events, a plane's report and a reload, and of a reload by a map of places, computed by the
 //! kernel.
 ghost use Rattle.pim_runs.specs.History.{CopyIsMade, HistoryAsks, HistoryLeads};
-ghost use Rattle.pim_runs.specs.Placed.{CauseIsRenumbered, PlacedIsAsked, PlacesLead, StreamGoesOn};
+ghost use Rattle.pim_runs.specs.Placed.{CauseHasOldNumber, PlacedIsAsked, PlacesLead, StreamGoesOn};
 
 /// The history leads to a state in which the keepalive timer ends as the plane's report says.
 pub fn history_leads()
@@ -29,8 +29,8 @@ pub fn stream_goes_on()
 {}
 
 /// The cause of that copy is the host's report, under the old number of its link.
-pub fn cause_is_renumbered()
-    ensures { CauseIsRenumbered }
+pub fn cause_has_old_number()
+    ensures { CauseHasOldNumber }
 {}
 
 /// That copy is asked for by what came before the reload.

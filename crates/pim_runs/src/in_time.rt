@@ -1,8 +1,8 @@
 //! A network that meets the premises of the laws of Joins and Hellos in time, computed by the kernel.
 ghost use Rattle.pim_runs.specs.HellosInTime.{HellosAreInTime, NeighbourStays, OneIsDr};
 ghost use Rattle.pim_runs.specs.InTime.{JoinStaysHeld, JoinsAreInTime, StreamGoesOn};
-ghost use Rattle.pim_runs.specs.OnLink.{FramesAreInTime, JoinIsHeldBack, SharedStaysHeld};
-ghost use Rattle.pim_runs.specs.WayInTime.{WayIsInTime, WayStaysHeld};
+ghost use Rattle.pim_runs.specs.OnLink.{JoinIsOverheardInTime, JoinIsHeldBack, SharedStaysHeld};
+ghost use Rattle.pim_runs.specs.WayInTime.{ChainJoinsInTime, WayStaysHeld};
 
 /// The Join of the first router of the chain is repeated in time, move after move.
 pub fn joins_are_in_time()
@@ -20,8 +20,8 @@ pub fn stream_goes_on()
 {}
 
 /// Of two routers on a link below a third, the Join of the one comes to the third, and the other sees it.
-pub fn frames_are_in_time()
-    ensures { FramesAreInTime }
+pub fn join_is_overheard_in_time()
+    ensures { JoinIsOverheardInTime }
 {}
 
 /// So the other holds its own Join back.
@@ -35,8 +35,8 @@ pub fn shared_stays_held()
 {}
 
 /// The first two routers of the chain repeat their Joins in time, move after move.
-pub fn way_is_in_time()
-    ensures { WayIsInTime }
+pub fn chain_joins_in_time()
+    ensures { ChainJoinsInTime }
 {}
 
 /// So each router above holds the group all the while.

@@ -1,0 +1,68 @@
+//! Two routers send the same packets on a link.
+
+ghost use Rattle.law_converges.specs.LinkAsserts.{GivesWayToAssert, OneWinnerIsLeft, WinnerAnswersAssert};
+ghost use Rattle.law_converges.specs.LinkLosers.{EventKeepsLoss, LoserComesToStay, LoserStaysLoser};
+ghost use Rattle.law_converges.specs.OneSender.{AtMostOneComesToSend, AtMostOneSends, LoserSendsNone};
+
+/// A router that gives way to an Assert has lost the assert to it until 180 s after its present time, or has no assert any
+/// more, where it must go. A winner gives way to a better metric than that with which it won; a loser to a better one, and
+/// to an acceptable one of its winner, of (S,G) with RPTbit clear. So each Assert of the winner keeps a loser for 180 s.
+pub fn gives_way_to_assert()
+    ensures { GivesWayToAssert }
+{}
+
+/// A winner answers an inferior Assert, which is no better than what it won with, by its own Assert, in the same event.
+pub fn winner_answers_assert()
+    ensures { WinnerAnswersAssert }
+{}
+
+/// Across a link: of two winners of an assert, the one that hears an inferior Assert, as the other's is whose metric is
+/// worse, has its own on the link after that event, in a frame that wasn't there before. Whatever moves of the network come
+/// next, with any time, the delivery of that frame to another router, which is on the link, knows the first one as a
+/// neighbour, has room and gives way to it, leaves that router without what it won: it has lost the assert to the first one
+/// until 180 s after its present time, or has no assert, where it must go. The group isn't link-local.
+pub fn one_winner_is_left()
+    ensures { OneWinnerIsLeft }
+{}
+
+/// A router that has lost an assert until a timestamp at least still has after an event that leaves its present time before
+/// that, unless the event ends the loss: by its own change, as the interface goes down, the winner says Hello with another
+/// generation ID, a Join of the same comes to the router, or the winner, or a better one, asserts anything else; or since the
+/// assert must go on the event's way, as the winner is no neighbour, the assert isn't tracked, the router's own metric is
+/// better, or the interface stops being the RPF interface.
+pub fn event_keeps_loss()
+    ensures { EventKeepsLoss }
+{}
+
+/// Across a link: who has lost an assert until 2 d after the winner's Assert Timer expires stays the loser, however many
+/// moves there are. The other router stays the winner, and asserts with the same metric; its timer is at most d late; each of
+/// its Asserts comes within d, which is below 1500 ms, half of Assert_Override_Interval; the loser gives way to it, and no
+/// event ends the loss there.
+pub fn loser_stays_loser()
+    ensures { LoserStaysLoser }
+{}
+
+/// With the same premises but that it has lost to begin with: the other router has lost from 2 d after the winner's Assert
+/// Timer expires on, without end, whatever it was before, if it gives way to the Asserts.
+pub fn loser_comes_to_stay()
+    ensures { LoserComesToStay }
+{}
+
+/// A router sends no packet on an interface that a lost assert takes off the lists: of a source's assert none of the
+/// source, where lost_assert(S,G,I) and lost_assert(S,G,rpt,I) hold; of a group's none that doesn't come on its source's tree,
+/// where lost_assert(*,G,I) holds. The packet is one that comes on an interface.
+pub fn loser_sends_none()
+    ensures { LoserSendsNone }
+{}
+
+/// Across a link: while one router is the winner of an assert, as `LoserStaysLoser` says, another one that has lost sends none
+/// of these packets on the link, so that at most one of both does. The link is neither its RPF interface to the RP, nor, of a
+/// source's assert, to the source, to which its own metric is worse than the winner's.
+pub fn at_most_one_sends()
+    ensures { AtMostOneSends }
+{}
+
+/// So it is from 2 d after the winner's Assert Timer expires on, whatever the other one was before.
+pub fn at_most_one_comes_to_send()
+    ensures { AtMostOneComesToSend }
+{}

@@ -1,0 +1,24 @@
+//! What routers come to join.
+
+ghost use Rattle.law_converges.specs.JoinedWays.{WayComesToBeJoined};
+ghost use Rattle.law_converges.specs.LinkJoins.{AllComeToBeHeld};
+
+/// Of any number of routers, of one link or of several, that each want the group, or the source, and join it over their next
+/// hops, each next hop holds it from a bound on, whatever it held before, and without end: after each of any moves by which
+/// the time at each next hop is past the bound, each has a row of it on that interface which expires later than its present,
+/// with no Prune pending. The bound is 2 d after the expiry of the present Join timer of each at the earliest. Of each router
+/// and its next hop the premises of `JoinsAreShared` hold, but not that to begin with the next hop holds it.
+pub fn all_come_to_be_held()
+    ensures { AllComeToBeHeld }
+{}
+
+/// While the first router of a way of any length wants the group, or the source, each of the others comes to hold it, whatever
+/// it held before, and then without end: the first next hop from a bound on, and each further one 84 s + 2 d + 3 times the lag
+/// after the one below it. It holds after each of any moves by which the time at each router of the network is past that. To
+/// begin with the first router's time isn't past the bound, and its next Join is due 2 d before it at the latest. No router's
+/// time is further than the lag ahead of another's. Of each router and its next hop the premises of `WayStaysJoined` hold, but
+/// not that to begin with the next hop holds it; a Join timer that runs to begin with runs for at most 84 s, as long as
+/// another router's Join may hold a Join back.
+pub fn way_comes_to_be_joined()
+    ensures { WayComesToBeJoined }
+{}
