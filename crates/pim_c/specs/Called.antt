@@ -13,10 +13,10 @@ use Rattle.pim_worlds.{specs.Resuming.IsResumable}
 use Rattle.igmp_older_saved.{specs.{Reading.{held_reading, held_restore_test}, Refused.held_refusal_number, Text.{Held, held_text, FitsHeld}, declared.refusal.HeldRefusal.HeldRefusal}}
 use Rattle.pim_router.{specs.{Asked.{LeadsOn, SentIsAsked}, Standing.{Standing, begun, nothing_shown, standing, with_state}}}
 use Rattle.pim_guard.{specs.Guard.is_stopped}
-use Rattle.pim_session.{specs.{Front.{Front, emissions_left, front_after, given, hosts_set, interface_test, is_sure, older_rows, version_set}, Leaving.{GoesOnFrom, LeftIsAsked}, Saved.{front_resumed, held_of}, Session.ShownSession, Untaken.{IsStill, has_untaken}}}
+use Rattle.pim_session.{specs.{Front.{Front, emissions_leaving, front_after, given, hosts_set, interface_test, is_sure, older_rows, version_set}, Leaving.{GoesOnFrom, LeftIsAsked}, Saved.{front_resumed, held_of}, Session.ShownSession, Untaken.{IsStill, has_untaken}}}
 use Rattle.igmp_older.{specs.declared.{mode.OlderRow.OlderRow, setting.{OlderHosts.OlderHosts, QueryVersion.QueryVersion}}}
 use Rattle.pim_types.{specs.declared.{config.Config.Config, event.Event.Event, fact.Key.Key, outcome.Emission.Emission}}
-use Rattle.pim_c.{specs.{Told.{answer_number, bytes_in, kept_number, name_of, no_interface_number, older_group_of, set_number, told_packet, written_into}, declared.told.{Forwarding.Forwarding, Interfaces.Interfaces, NamedSource.NamedSource, OlderGroup.OlderGroup, Packet.Packet, PlaneRow.PlaneRow}}}
+use Rattle.pim_c.{specs.{Returned.{answer_number, bytes_in, kept_number, name_of, no_interface_number, older_group_of, set_number, c_packet, written_into}, declared.returned.{Forwarding.Forwarding, Interfaces.Interfaces, NamedSource.NamedSource, OlderGroup.OlderGroup, Packet.Packet, PlaneRow.PlaneRow}}}
 
 -- What a session shows of a router that goes on from a state: the guard stands before it, and what was saved of older
 -- hosts, if anything was; nothing is kept.
@@ -59,8 +59,14 @@ Taken s r e left = Went s r e left × (left.front ≡ s.front) × (left.sent ≡
 -- leaves has its cause in what led to the router's state.
 abbrev pub TakenBehind : ShownSession → Standing → Event → Event → ShownSession → Type 0
 TakenBehind s r e behind left = Went s r behind left × (left.front ≡ front_after s.front r.state e)
-    × (left.sent ≡ emissions_left s.front (step r.state behind).emissions)
+    × (left.sent ≡ emissions_leaving s.front (step r.state behind).emissions)
     × IfSome left.router.standing (λ after. LeftIsAsked s.front r.state behind (step r.state behind).answer left.sent after.copies)
+
+-- What a call does to a handle and answers: without a router it answers 50; else it does what is said of the session.
+abbrev pub AtSession : (ShownSession → ℕ → ShownSession → Type 0) → Option ShownSession → ℕ → Option ShownSession → Type 0
+AtSession does None answer left = (answer ≡ 50) × (left ≡ None)
+AtSession does (Some s) answer (Some left) = does s answer left
+AtSession does (Some s) answer None = ⊥
 
 -- While packets of the event before are untaken an event is refused, and nothing changes.
 abbrev pub UnlessUntaken : Bool → ShownSession → ℕ → ShownSession → Type 0 → Type 0
@@ -89,9 +95,7 @@ SteppedFrom s (Some r) e answer left = UnlessUntaken (has_untaken s) s answer le
 -- The event was refused for untaken packets, or the guard stopped it, or the router took it and the answer is the
 -- router's, or an allocation failed.
 abbrev pub Stepped : Option ShownSession → Event → ℕ → Option ShownSession → Type 0
-Stepped None e answer left = (answer ≡ 50) × (left ≡ None)
-Stepped (Some s) e answer (Some left) = SteppedFrom s s.router.standing e answer left
-Stepped (Some s) e answer None = ⊥
+Stepped old e answer left = AtSession (λ s. SteppedFrom s s.router.standing e) old answer left
 
 abbrev pub refused_number : Option Standing → Bool → ℕ
 refused_number None has_untaken = 41
@@ -115,9 +119,7 @@ SeenFrom s (Some r) e answer left = UnlessUntaken (has_untaken s) s answer left 
 -- The event that stands for a packet which a data plane saw was refused for untaken packets, or the router took it, or an
 -- allocation failed, whatever the event is.
 abbrev pub Seen : Option ShownSession → Event → ℕ → Option ShownSession → Type 0
-Seen None e answer left = (answer ≡ 50) × (left ≡ None)
-Seen (Some s) e answer (Some left) = SeenFrom s s.router.standing e answer left
-Seen (Some s) e answer None = ⊥
+Seen old e answer left = AtSession (λ s. SeenFrom s s.router.standing e) old answer left
 
 abbrev pub SourceKeptFrom : ShownSession → Option Standing → ℕ → ℕ → ℕ → ℕ → ShownSession → Type 0
 SourceKeptFrom s None source group moment answer left = (answer ≡ 41) × (left ≡ lost s)
@@ -129,10 +131,7 @@ SourceKeptFrom s (Some r) source group moment answer left =
 
 -- The source's keepalive timer was moved if it runs, with which what led to the router's state goes on, or an allocation failed.
 abbrev pub SourceKept : Option ShownSession → ℕ → ℕ → ℕ → ℕ → Option ShownSession → Type 0
-SourceKept None source group moment answer left = (answer ≡ 50) × (left ≡ None)
-SourceKept (Some s) source group moment answer (Some left) =
-    SourceKeptFrom s s.router.standing source group moment answer left
-SourceKept (Some s) source group moment answer None = ⊥
+SourceKept old source group moment answer left = AtSession (λ s. SourceKeptFrom s s.router.standing source group moment) old answer left
 
 -- A timestamp past the latest is refused, and nothing changes; else the source's keepalive timer is moved.
 abbrev pub KeepAnswered : Bool → Option ShownSession → ℕ → ℕ → ℕ → ℕ → Option ShownSession → Type 0
@@ -147,9 +146,7 @@ ReadFrom s (Some r) table answer left =
 
 -- The rows of the table were read, or an allocation failed.
 abbrev pub Read : Option ShownSession → Table → ℕ → Option ShownSession → Type 0
-Read None table answer left = (answer ≡ 50) × (left ≡ None)
-Read (Some s) table answer (Some left) = ReadFrom s s.router.standing table answer left
-Read (Some s) table answer None = ⊥
+Read old table answer left = AtSession (λ s. ReadFrom s s.router.standing table) old answer left
 
 -- A letter of no table is refused, and nothing is read; else the rows of its table are read.
 abbrev pub ReadBy : Option ShownSession → Option Table → ℕ → Option ShownSession → Type 0
@@ -164,9 +161,7 @@ HostsSetFrom s (Some r) i hosts answer left =
 
 -- The hosts that an interface hears were set, or the interface was refused, or an allocation failed.
 abbrev pub HostsSet : Option ShownSession → ℕ → OlderHosts → ℕ → Option ShownSession → Type 0
-HostsSet None i hosts answer left = (answer ≡ 50) × (left ≡ None)
-HostsSet (Some s) i hosts answer (Some left) = HostsSetFrom s s.router.standing i hosts answer left
-HostsSet (Some s) i hosts answer None = ⊥
+HostsSet old i hosts answer left = AtSession (λ s. HostsSetFrom s s.router.standing i hosts) old answer left
 
 -- A number that names no hosts is refused, and nothing changes; else the hosts are set.
 abbrev pub HostsSetBy : Option ShownSession → ℕ → Option OlderHosts → ℕ → Option ShownSession → Type 0
@@ -181,9 +176,7 @@ VersionSetFrom s (Some r) i version answer left =
 
 -- The version in which an interface queries was set, or the interface was refused, or an allocation failed.
 abbrev pub VersionSet : Option ShownSession → ℕ → QueryVersion → ℕ → Option ShownSession → Type 0
-VersionSet None i version answer left = (answer ≡ 50) × (left ≡ None)
-VersionSet (Some s) i version answer (Some left) = VersionSetFrom s s.router.standing i version answer left
-VersionSet (Some s) i version answer None = ⊥
+VersionSet old i version answer left = AtSession (λ s. VersionSetFrom s s.router.standing i version) old answer left
 
 -- A number that names no version is refused, and nothing changes; else the version is set.
 abbrev pub VersionSetBy : Option ShownSession → ℕ → Option QueryVersion → ℕ → Option ShownSession → Type 0
@@ -196,9 +189,7 @@ GuardSetFrom s (Some r) is_on answer left = (answer ≡ 0) × (left ≡ record s
 
 -- The guard was set on or off.
 abbrev pub GuardSet : Option ShownSession → Bool → ℕ → Option ShownSession → Type 0
-GuardSet None is_on answer left = (answer ≡ 50) × (left ≡ None)
-GuardSet (Some s) is_on answer (Some left) = GuardSetFrom s s.router.standing is_on answer left
-GuardSet (Some s) is_on answer None = ⊥
+GuardSet old is_on answer left = AtSession (λ s. GuardSetFrom s s.router.standing is_on) old answer left
 
 -- A number that says neither is refused, and nothing changes; else the guard is set.
 abbrev pub GuardSetBy : Option ShownSession → Option Bool → ℕ → Option ShownSession → Type 0
@@ -213,9 +204,7 @@ OlderReadFrom s (Some r) answer left =
 
 -- The groups in an older mode were read, or an allocation failed.
 abbrev pub OlderRead : Option ShownSession → ℕ → Option ShownSession → Type 0
-OlderRead None answer left = (answer ≡ 50) × (left ≡ None)
-OlderRead (Some s) answer (Some left) = OlderReadFrom s s.router.standing answer left
-OlderRead (Some s) answer None = ⊥
+OlderRead old answer left = AtSession (λ s. OlderReadFrom s s.router.standing) old answer left
 
 -- What is to be sent: the packets that are untaken.
 abbrev pub packets_in : Option ShownSession → List Emission
@@ -260,20 +249,20 @@ is_copy copies others = nat_lt (length (filter is_on_link others)) copies
 abbrev pub copies_in : Option Standing → ℕ
 copies_in standing = option_map_or (λ (r : Standing). r.copies) standing 0
 
-abbrev pub NoneTold : Bool → Packet → Packet → List ℕ → List ℕ → Type 0
-NoneTold is_taken packet told room filled = (is_taken ≡ false) × (told ≡ packet) × (filled ≡ room)
+abbrev pub NothingWritten : Bool → Packet → Packet → List ℕ → List ℕ → Type 0
+NothingWritten is_taken packet written room filled = (is_taken ≡ false) × (written ≡ packet) × (filled ≡ room)
 
 -- A packet is written out with its bytes, if there is room for them.
-abbrev pub FirstTold : Bool → Emission → Bool → Bool → Packet → Packet → List ℕ → List ℕ → Type 0
-FirstTold false first is_copied is_taken packet told room filled = NoneTold is_taken packet told room filled
-FirstTold true first is_copied is_taken packet told room filled =
-    (is_taken ≡ true) × (told ≡ told_packet first is_copied) × (filled ≡ written_into room (bytes_in first))
+abbrev pub FirstWritten : Bool → Emission → Bool → Bool → Packet → Packet → List ℕ → List ℕ → Type 0
+FirstWritten false first is_copied is_taken packet written room filled = NothingWritten is_taken packet written room filled
+FirstWritten true first is_copied is_taken packet written room filled =
+    (is_taken ≡ true) × (written ≡ c_packet first is_copied) × (filled ≡ written_into room (bytes_in first))
 
 -- The first packet is written out, if there is one and room for its bytes.
-abbrev pub PacketTold : ℕ → List Emission → Bool → Packet → Packet → List ℕ → List ℕ → Type 0
-PacketTold copies [] is_taken packet told room filled = NoneTold is_taken packet told room filled
-PacketTold copies (first ∷ others) is_taken packet told room filled =
-    FirstTold (nat_le (length (bytes_in first)) (length room)) first (is_copy copies others) is_taken packet told room filled
+abbrev pub PacketWritten : ℕ → List Emission → Bool → Packet → Packet → List ℕ → List ℕ → Type 0
+PacketWritten copies [] is_taken packet written room filled = NothingWritten is_taken packet written room filled
+PacketWritten copies (first ∷ others) is_taken packet written room filled =
+    FirstWritten (nat_le (length (bytes_in first)) (length room)) first (is_copy copies others) is_taken packet written room filled
 
 -- what is untaken after a packet was taken, or after none was
 abbrev pub sent_left : Bool → List Emission → List Emission
@@ -283,23 +272,23 @@ sent_left false sent = sent
 -- The first of the packets that are to be sent was written out and is no more to be sent; or there is none, or no room
 -- for it, and nothing changed.
 abbrev pub PacketTaken : Option ShownSession → Bool → Packet → Packet → List ℕ → List ℕ → Option ShownSession → Type 0
-PacketTaken None is_taken packet told room filled left =
-    (is_taken ≡ false) × (told ≡ packet) × (filled ≡ room) × (left ≡ None)
-PacketTaken (Some s) is_taken packet told room filled left =
-    PacketTold (copies_in s.router.standing) s.sent is_taken packet told room filled
+PacketTaken None is_taken packet written room filled left =
+    (is_taken ≡ false) × (written ≡ packet) × (filled ≡ room) × (left ≡ None)
+PacketTaken (Some s) is_taken packet written room filled left =
+    PacketWritten (copies_in s.router.standing) s.sent is_taken packet written room filled
     × (left ≡ Some (record s { sent = sent_left is_taken s.sent }))
 
 -- no packet is to be sent, and nothing else changed
 abbrev pub cleared : ShownSession → ShownSession
 cleared s = record s { sent = [] }
 
-abbrev pub OlderTold : Option OlderRow → Bool → OlderGroup → OlderGroup → Type 0
-OlderTold None is_there row told = (is_there ≡ false) × (told ≡ row)
-OlderTold (Some found) is_there row told = (is_there ≡ true) × (told ≡ older_group_of found)
+abbrev pub OlderWritten : Option OlderRow → Bool → OlderGroup → OlderGroup → Type 0
+OlderWritten None is_there row written = (is_there ≡ false) × (written ≡ row)
+OlderWritten (Some found) is_there row written = (is_there ≡ true) × (written ≡ older_group_of found)
 
-abbrev pub NameTold : Option Key → Bool → NamedSource → NamedSource → Type 0
-NameTold None is_there name told = (is_there ≡ false) × (told ≡ name)
-NameTold (Some key) is_there name told = (is_there ≡ true) × (told ≡ name_of key)
+abbrev pub NameWritten : Option Key → Bool → NamedSource → NamedSource → Type 0
+NameWritten None is_there name written = (is_there ≡ false) × (written ≡ name)
+NameWritten (Some key) is_there name written = (is_there ≡ true) × (written ≡ name_of key)
 
 -- the interfaces that pass a test, as bits
 abbrev pub interface_bits : Set → Interfaces
@@ -317,15 +306,15 @@ forwarding_of a shared_rpf = record {
   shared_tree = interface_bits a.inherited_rpt;
 }
 
-abbrev pub AnswersTold : Option Answers → Option ℕ → Bool → Forwarding → Forwarding → Type 0
-AnswersTold None shared_rpf is_there row told = (is_there ≡ false) × (told ≡ row)
-AnswersTold (Some a) shared_rpf is_there row told = (is_there ≡ true) × (told ≡ forwarding_of a shared_rpf)
+abbrev pub AnswersWritten : Option Answers → Option ℕ → Bool → Forwarding → Forwarding → Type 0
+AnswersWritten None shared_rpf is_there row written = (is_there ≡ false) × (written ≡ row)
+AnswersWritten (Some a) shared_rpf is_there row written = (is_there ≡ true) × (written ≡ forwarding_of a shared_rpf)
 
 -- The row of a source with a fact is written out.
-abbrev pub CachedTold : Option Standing → ℕ → ℕ → Bool → Forwarding → Forwarding → Type 0
-CachedTold None source group is_there row told = (is_there ≡ false) × (told ≡ row)
-CachedTold (Some r) source group is_there row told =
-    AnswersTold (cached r.state group source) (rpf_interface_rp r.state group) is_there row told
+abbrev pub CachedWritten : Option Standing → ℕ → ℕ → Bool → Forwarding → Forwarding → Type 0
+CachedWritten None source group is_there row written = (is_there ≡ false) × (written ≡ row)
+CachedWritten (Some r) source group is_there row written =
+    AnswersWritten (cached r.state group source) (rpf_interface_rp r.state group) is_there row written
 
 -- What is offered of a source, as C reads it.
 abbrev pub plane_row_of : Offered → PlaneRow
@@ -337,14 +326,14 @@ plane_row_of o = record {
   to_core = interface_bits o.row.to_core;
 }
 
-abbrev pub OfferTold : Option Offered → Bool → PlaneRow → PlaneRow → Type 0
-OfferTold None is_there row told = (is_there ≡ false) × (told ≡ row)
-OfferTold (Some o) is_there row told = (is_there ≡ true) × (told ≡ plane_row_of o)
+abbrev pub OfferWritten : Option Offered → Bool → PlaneRow → PlaneRow → Type 0
+OfferWritten None is_there row written = (is_there ≡ false) × (written ≡ row)
+OfferWritten (Some o) is_there row written = (is_there ≡ true) × (written ≡ plane_row_of o)
 
 -- What a data plane may do with the packets of a source is written out.
-abbrev pub OffloadTold : Option Standing → ℕ → ℕ → Bool → PlaneRow → PlaneRow → Type 0
-OffloadTold None source group is_there row told = (is_there ≡ false) × (told ≡ row)
-OffloadTold (Some r) source group is_there row told = OfferTold (offered r.state group source) is_there row told
+abbrev pub OffloadWritten : Option Standing → ℕ → ℕ → Bool → PlaneRow → PlaneRow → Type 0
+OffloadWritten None source group is_there row written = (is_there ≡ false) × (written ≡ row)
+OffloadWritten (Some r) source group is_there row written = OfferWritten (offered r.state group source) is_there row written
 
 abbrev pub MadeBy : Result (Unit {0}) Refusal → Option ShownSession → Config → ℕ → Option ShownSession → Type 0
 MadeBy (Ok _) old config answer left = (answer ≡ 0) × (left ≡ Some (new_shown config))
@@ -366,16 +355,16 @@ Restored old bytes answer left = RestoredBy (held_restore_test bytes) bytes old 
 
 -- The bytes were written, as many as fit, with their length.
 abbrev pub Wrote : Held → ℕ → List ℕ → List ℕ → Type 0
-Wrote h told room filled =
-    (told ≡ length (held_text h)) × (filled ≡ written_into room (held_text h)) × FitsHeld h × IsResumable h.state
+Wrote h written room filled =
+    (written ≡ length (held_text h)) × (filled ≡ written_into room (held_text h)) × FitsHeld h × IsResumable h.state
 
 abbrev pub SavedFrom : Option Standing → Option Front → ℕ → ℕ → ℕ → List ℕ → List ℕ → Type 0
-SavedFrom None front answer size told room filled = (answer ≡ 41) × (told ≡ size) × (filled ≡ room)
-SavedFrom (Some r) front answer size told room filled =
-    ((answer ≡ 0) × Wrote (held_of r.state front) told room filled) ⊎ ((answer ≡ 40) × (told ≡ size) × (filled ≡ room))
+SavedFrom None front answer size written room filled = (answer ≡ 41) × (written ≡ size) × (filled ≡ room)
+SavedFrom (Some r) front answer size written room filled =
+    ((answer ≡ 0) × Wrote (held_of r.state front) written room filled) ⊎ ((answer ≡ 40) × (written ≡ size) × (filled ≡ room))
 
 -- The text of the router's state with its rows of older hosts was written, as much as fits, with its length, or an
 -- allocation failed.
 abbrev pub Saved : Option ShownSession → ℕ → ℕ → ℕ → List ℕ → List ℕ → Type 0
-Saved None answer size told room filled = (answer ≡ 50) × (told ≡ size) × (filled ≡ room)
-Saved (Some s) answer size told room filled = SavedFrom s.router.standing s.front answer size told room filled
+Saved None answer size written room filled = (answer ≡ 50) × (written ≡ size) × (filled ≡ room)
+Saved (Some s) answer size written room filled = SavedFrom s.router.standing s.front answer size written room filled

@@ -3,7 +3,7 @@ use Rattle.std.{specs.Prelude.{List, None, Option, Some, if◌then◌else◌, ma
 use Rattle.pim_ip.{specs.{Addr.addr, declared.addr.Prefix.Prefix}}
 use Rattle.pim_types.{specs.declared.{config.{Config.Config, InterfaceConfig.InterfaceConfig, Route.Route, RpRange.RpRange, SptSwitch.SptSwitch}, event.{Event.Event, EventKind.EventKind}}}
 use Rattle.pim_ifset.{specs.Members.iface_of}
-use Rattle.pim_c.{specs.declared.given.{GivenInterface.GivenInterface, GivenRange.GivenRange, GivenRoute.GivenRoute, GivenSettings.GivenSettings}}
+use Rattle.pim_c.{specs.declared.given.{GivenConfiguration.GivenConfiguration, GivenInterface.GivenInterface, GivenRange.GivenRange, GivenRoute.GivenRoute}}
 
 abbrev pub interface_of : GivenInterface → InterfaceConfig
 interface_of g = record {
@@ -29,18 +29,18 @@ route_of g = record {
 abbrev pub range_of : GivenRange → RpRange
 range_of g = record { prefix = given_prefix g.prefix g.length; rp = addr g.rp }
 
-abbrev pub config_of : GivenSettings → List ℕ → List GivenInterface → List GivenRoute → List GivenRange → Config
-config_of g addresses interfaces routes ranges = record {
-  interfaces = map interface_of interfaces;
-  addresses = map addr addresses;
-  limit = g.limit;
-  spt = if g.stays_on_shared_tree then SptSwitch.Never else SptSwitch.Always;
-  robustness = g.robustness;
-  query_interval = g.query_interval;
-  query_response_interval = g.query_response_interval;
-  last_member_query_interval = g.last_member_query_interval;
-  routes = map route_of routes;
-  rps = map range_of ranges;
+abbrev pub config_of : GivenConfiguration → Config
+config_of g = record {
+  interfaces = map interface_of g.interfaces.now;
+  addresses = map addr g.addresses.now;
+  limit = g.settings.limit;
+  spt = if g.settings.stays_on_shared_tree then SptSwitch.Never else SptSwitch.Always;
+  robustness = g.settings.robustness;
+  query_interval = g.settings.query_interval;
+  query_response_interval = g.settings.query_response_interval;
+  last_member_query_interval = g.settings.last_member_query_interval;
+  routes = map route_of g.routes.now;
+  rps = map range_of g.ranges.now;
 }
 
 -- a number that stands for a place, or for none

@@ -4,7 +4,7 @@ pub mod Kept
 pub mod Placed
 pub mod Recorded
 pub mod Reloaded
+pub mod Returned
 pub mod Rows
-pub mod Told
 pub mod Trees
 pub use Rattle.pim_session.specs.Session

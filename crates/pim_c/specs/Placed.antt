@@ -5,10 +5,10 @@ use Rattle.pim_ip.{specs.{Refusal.refusal_number, declared.refusal.Refusal.Refus
 use Rattle.law_states.{specs.{History.Given, Placing.{Places, reload_by}}}
 use Rattle.pim_reloader.{specs.Listing.ListsFacts}
 use Rattle.pim_router.{specs.{Asked.{LeadsOn, places_test}, Standing.{Standing, beginning}}}
-use Rattle.pim_session.{specs.{Front.emissions_left, Placed.front_reloaded_by, Session.ShownSession, Untaken.has_untaken}}
+use Rattle.pim_session.{specs.{Front.emissions_leaving, Placed.front_reloaded_by, Session.ShownSession, Untaken.has_untaken}}
 use Rattle.pim_types.{specs.declared.config.Config.Config}
 use Rattle.pim_state.{specs.declared.touched.Touched.Touched}
-use Rattle.pim_c.{specs.Called.{Refused, UnlessUntaken, lost}}
+use Rattle.pim_c.{specs.Called.{AtSession, Refused, UnlessUntaken, lost}}
 
 -- What a session shows after its router was put under another configuration by a map of places: what is to be sent is what
 -- that sends, all sources with a fact before or after it are listed, all count as disturbed, and no rows are kept. What led
@@ -19,7 +19,7 @@ PutBy places s r config draw left = (left.router.standing ≡ Some (beginning (r
     × ListsFacts r.state (reload_by r.state places config draw).0 left.router.changed
     × (left.router.disturbed ≡ record { touched = Touched.All; replaced = NoneReplaced })
     × (left.front ≡ front_reloaded_by places (reload_by r.state places config draw).0 s.front) × (left.guard ≡ s.guard)
-    × (left.sent ≡ emissions_left s.front (reload_by r.state places config draw).1)
+    × (left.sent ≡ emissions_leaving s.front (reload_by r.state places config draw).1)
     × (left.rows ≡ []) × (left.older_rows ≡ [])
 
 -- A configuration or a map that is refused changes nothing.
@@ -35,9 +35,7 @@ PlacedFrom places s (Some r) config draw answer left = UnlessUntaken (has_untake
 -- The call was refused for untaken packets, or the router was put under the configuration, or this or the map was refused,
 -- or an allocation failed.
 abbrev pub Placed : Places → Option ShownSession → Config → ℕ → ℕ → Option ShownSession → Type 0
-Placed places None config draw answer left = (answer ≡ 50) × (left ≡ None)
-Placed places (Some s) config draw answer (Some left) = PlacedFrom places s s.router.standing config draw answer left
-Placed places (Some s) config draw answer None = ⊥
+Placed places old config draw answer left = AtSession (λ s. PlacedFrom places s s.router.standing config draw) old answer left
 
 -- The configuration and the map were copied, and the router was put under it, or an allocation failed for the copy and
 -- nothing changed.

@@ -6,10 +6,10 @@ use Rattle.pim_model.{specs.Limits.config_test}
 use Rattle.law_states.{specs.{History.Given, Reloading.reload}}
 use Rattle.pim_reloader.{specs.Listing.ListsFacts}
 use Rattle.pim_router.{specs.{Asked.LeadsOn, Standing.{Standing, beginning}}}
-use Rattle.pim_session.{specs.{Front.emissions_left, Reloaded.front_reloaded, Session.ShownSession, Untaken.has_untaken}}
+use Rattle.pim_session.{specs.{Front.emissions_leaving, Reloaded.front_reloaded, Session.ShownSession, Untaken.has_untaken}}
 use Rattle.pim_types.{specs.declared.config.Config.Config}
 use Rattle.pim_state.{specs.declared.touched.Touched.Touched}
-use Rattle.pim_c.{specs.Called.{Refused, UnlessUntaken, lost}}
+use Rattle.pim_c.{specs.Called.{AtSession, Refused, UnlessUntaken, lost}}
 
 -- What a session shows after its router was put under another configuration: what is to be sent is what that sends, all
 -- sources with a fact before or after it are listed, all count as disturbed, and no rows are kept. What led to the
@@ -20,7 +20,7 @@ PutUnder s r config draw left = (left.router.standing ≡ Some (beginning (reloa
     × ListsFacts r.state (reload r.state config draw).0 left.router.changed
     × (left.router.disturbed ≡ record { touched = Touched.All; replaced = NoneReplaced })
     × (left.front ≡ front_reloaded (reload r.state config draw).0 s.front) × (left.guard ≡ s.guard)
-    × (left.sent ≡ emissions_left s.front (reload r.state config draw).1)
+    × (left.sent ≡ emissions_leaving s.front (reload r.state config draw).1)
     × (left.rows ≡ []) × (left.older_rows ≡ [])
 
 -- A configuration that is refused changes nothing.
@@ -36,9 +36,7 @@ ReloadedFrom s (Some r) config draw answer left = UnlessUntaken (has_untaken s) 
 -- The call was refused for untaken packets, or the router was put under the configuration, or the configuration was
 -- refused, or an allocation failed.
 abbrev pub Reloaded : Option ShownSession → Config → ℕ → ℕ → Option ShownSession → Type 0
-Reloaded None config draw answer left = (answer ≡ 50) × (left ≡ None)
-Reloaded (Some s) config draw answer (Some left) = ReloadedFrom s s.router.standing config draw answer left
-Reloaded (Some s) config draw answer None = ⊥
+Reloaded old config draw answer left = AtSession (λ s. ReloadedFrom s s.router.standing config draw) old answer left
 
 -- The configuration was copied, and the router was put under it, or an allocation failed for the copy and nothing changed.
 abbrev pub ReloadedCopy : Option ShownSession → Config → ℕ → ℕ → Option ShownSession → Type 0

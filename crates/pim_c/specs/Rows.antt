@@ -2,7 +2,7 @@
 use Rattle.std.{specs.Prelude.{Bool, None, Option, Some, false, true, unwrap_or, ℕ, ◌≡◌}}
 use Rattle.pim_types.{specs.declared.fact.AssertRole.AssertRole}
 use Rattle.pim_rows.{specs.declared.table.{DownstreamState.DownstreamState, RegisterName.RegisterName, Row.Row}}
-use Rattle.pim_c.{specs.{Told.{never, source_or_zero}, declared.rows.{ActiveColumns.ActiveColumns, AssertColumns.AssertColumns, DownstreamColumns.DownstreamColumns, GroupColumns.GroupColumns, NeighbourColumns.NeighbourColumns, RptColumns.RptColumns, SourceColumns.SourceColumns, ToldRow.ToldRow, UpstreamColumns.UpstreamColumns}}}
+use Rattle.pim_c.{specs.{Returned.{never, source_or_zero}, declared.rows.{ActiveColumns.ActiveColumns, AssertColumns.AssertColumns, DownstreamColumns.DownstreamColumns, GroupColumns.GroupColumns, NeighbourColumns.NeighbourColumns, RptColumns.RptColumns, SourceColumns.SourceColumns, CRow.CRow, UpstreamColumns.UpstreamColumns}}}
 
 abbrev pub downstream_number : DownstreamState → ℕ
 downstream_number DownstreamState.Join = 1
@@ -20,7 +20,7 @@ is_loser_role AssertRole.Winner = false
 is_loser_role AssertRole.Loser = true
 
 -- a row of the table of a letter, with no columns yet
-abbrev pub blank : ℕ → ToldRow
+abbrev pub blank : ℕ → CRow
 blank letter = record {
   table = letter;
   neighbour = record { iface = 0; address = 0; end = 0 };
@@ -33,7 +33,7 @@ blank letter = record {
   active = record { group = 0; source = 0; keepalive = 0; spt_bit = false; register_state = 0 };
 }
 
-abbrev pub row_of : Row → ToldRow
+abbrev pub row_of : Row → CRow
 row_of (Row.Neighbour iface address end) = record (blank 78) {
   neighbour = record { iface = iface.number; address = address.bits; end = unwrap_or end never };
 }
@@ -81,6 +81,6 @@ row_of (Row.Active group source keepalive spt register) = record (blank 70) {
 }
 
 -- One of the rows that were read is written out as C reads it, where there is one of the number.
-abbrev pub RowTold : Option Row → Bool → ToldRow → ToldRow → Type 0
-RowTold None is_there row told = (is_there ≡ false) × (told ≡ row)
-RowTold (Some found) is_there row told = (is_there ≡ true) × (told ≡ row_of found)
+abbrev pub RowWritten : Option Row → Bool → CRow → CRow → Type 0
+RowWritten None is_there row written = (is_there ≡ false) × (written ≡ row)
+RowWritten (Some found) is_there row written = (is_there ≡ true) × (written ≡ row_of found)

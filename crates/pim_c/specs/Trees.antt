@@ -5,17 +5,17 @@ use Rattle.pim_ifset.{specs.Members.has}
 use Rattle.pim_types.{specs.declared.{fact.{QuerierRole.QuerierRole, QuerierRow.QuerierRow}, path.{Hop.Hop, Path.Path}, upstream.TreeState.TreeState}}
 use Rattle.pim_router.{specs.Standing.Standing}
 use Rattle.pim_shown.{specs.{Links.{link, neighbour_at}, TreeMacros.{source_tree, tree}, declared.{link.{Link.Link, Neighbour.Neighbour}, shared.Tree.Tree, source.SourceTree.SourceTree, upstream.RpfCause.RpfCause}}}
-use Rattle.pim_c.{specs.{Called.interface_bits, Told.never, declared.trees.{ToldHop.ToldHop, ToldLanDelay.ToldLanDelay, ToldLink.ToldLink, ToldNeighbour.ToldNeighbour, ToldNumber.ToldNumber, ToldPath.ToldPath, ToldQuerier.ToldQuerier, ToldSourceTree.ToldSourceTree, ToldTree.ToldTree}}}
+use Rattle.pim_c.{specs.{Called.interface_bits, Returned.never, declared.trees.{CHop.CHop, CLanDelay.CLanDelay, CLink.CLink, CNeighbour.CNeighbour, CNumber.CNumber, CPath.CPath, CQuerier.CQuerier, CSourceTree.CSourceTree, CTree.CTree}}}
 
-abbrev pub number_of_option : Option ℕ → ToldNumber
+abbrev pub number_of_option : Option ℕ → CNumber
 number_of_option None = record { is_there = false; value = 0 }
 number_of_option (Some n) = record { is_there = true; value = n }
 
-abbrev pub hop_of : Option Hop → ToldHop
+abbrev pub hop_of : Option Hop → CHop
 hop_of None = record { is_there = false; iface = 0; address = 0 }
 hop_of (Some h) = record { is_there = true; iface = h.iface.number; address = h.address.bits }
 
-abbrev pub path_of : Option Path → ToldPath
+abbrev pub path_of : Option Path → CPath
 path_of None =
     record { is_there = false; is_connected = false; iface = 0; next_hop = 0; preference = 0; metric = 0 }
 path_of (Some p) = record {
@@ -41,7 +41,7 @@ state_number TreeState.NotJoined = 0
 state_number TreeState.Pruned = 1
 state_number TreeState.NotPruned = 2
 
-abbrev pub tree_of : Tree → ToldTree
+abbrev pub tree_of : Tree → CTree
 tree_of t = record {
   rp = number_of_option (option_map (λ (a : Addr). a.bits) t.rp);
   path = path_of t.rp_path;
@@ -56,7 +56,7 @@ tree_of t = record {
   immediate_olist = interface_bits (has t.immediate_olist);
 }
 
-abbrev pub source_tree_of : SourceTree → ToldSourceTree
+abbrev pub source_tree_of : SourceTree → CSourceTree
 source_tree_of t = record {
   path = path_of t.path;
   rpf_neighbour = hop_of t.rpf_neighbour;
@@ -83,7 +83,7 @@ source_tree_of t = record {
   inherited_olist_rpt = interface_bits (has t.inherited_olist_rpt);
 }
 
-abbrev pub querier_in : ℕ → ℕ → QuerierRole → ToldQuerier
+abbrev pub querier_in : ℕ → ℕ → QuerierRole → CQuerier
 querier_in robustness interval (QuerierRole.Querier next_query startup_left) = record {
   role = 1;
   end = next_query;
@@ -94,14 +94,14 @@ querier_in robustness interval (QuerierRole.Querier next_query startup_left) = r
 querier_in robustness interval (QuerierRole.NonQuerier end) =
     record { role = 2; end = end; startup_left = 0; robustness = robustness; query_interval = interval }
 
-abbrev pub querier_of : Option QuerierRow → ToldQuerier
+abbrev pub querier_of : Option QuerierRow → CQuerier
 querier_of None = record { role = 0; end = never; startup_left = 0; robustness = 0; query_interval = 0 }
 querier_of (Some r) = querier_in r.robustness r.query_interval r.role
 
-abbrev pub link_of : Link → ToldLink
+abbrev pub link_of : Link → CLink
 link_of l = record { is_up = l.is_up; is_dr = l.is_dr; dr = option_map_or (λ (a : Addr). a.bits) l.dr 0; querier = querier_of l.querier }
 
-abbrev pub lan_delay_of : Option LanDelay → ToldLanDelay
+abbrev pub lan_delay_of : Option LanDelay → CLanDelay
 lan_delay_of None = record { is_there = false; can_track = false; propagation_delay = 0; override_interval = 0 }
 lan_delay_of (Some d) = record {
   is_there = true;
@@ -110,7 +110,7 @@ lan_delay_of (Some d) = record {
   override_interval = d.override_interval;
 }
 
-abbrev pub neighbour_of : Neighbour → ToldNeighbour
+abbrev pub neighbour_of : Neighbour → CNeighbour
 neighbour_of n = record {
   end = unwrap_or n.end never;
   priority = number_of_option n.priority;
@@ -119,9 +119,9 @@ neighbour_of n = record {
 }
 
 -- A value that exists is written out as C reads it.
-abbrev pub ValueTold : {V T : Type 0} → (V → T) → Option V → Bool → T → T → Type 0
-ValueTold read None is_there out told = (is_there ≡ false) × (told ≡ out)
-ValueTold read (Some v) is_there out told = (is_there ≡ true) × (told ≡ read v)
+abbrev pub ValueWritten : {V T : Type 0} → (V → T) → Option V → Bool → T → T → Type 0
+ValueWritten read None is_there out written = (is_there ≡ false) × (written ≡ out)
+ValueWritten read (Some v) is_there out written = (is_there ≡ true) × (written ≡ read v)
 
 -- what a router that works tells; none without one
 abbrev pub tree_in : Option Standing → ℕ → Option Tree

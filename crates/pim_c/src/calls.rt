@@ -1,13 +1,13 @@
-//! The functions that C calls. Each repeats the contract of the method of the handle that it calls.
+//! The functions that C calls. Each takes the session out of the handle, calls it, and puts it back.
 ghost use Rattle.law_plane.specs.Seen.{seen_event};
-ghost use Rattle.pim_c.specs.Called.{CachedTold, Copied, GuardSetBy, HostsSetBy, KeepAnswered, Made, NameTold, OffloadTold, OlderRead, OlderTold, PacketTaken, ReadBy, Restored, Saved, Seen, Stepped, VersionSetBy, changed_in, cleared, may_differ_in, older_rows_in, packets_in, probes_in, rows_in, standing_in, touched_in};
+ghost use Rattle.pim_c.specs.Called.{CachedWritten, Copied, GuardSetBy, HostsSetBy, KeepAnswered, Made, NameWritten, OffloadWritten, OlderRead, OlderWritten, PacketTaken, ReadBy, Restored, Saved, Seen, Stepped, VersionSetBy, changed_in, cleared, may_differ_in, older_rows_in, packets_in, probes_in, rows_in, standing_in, touched_in};
 ghost use Rattle.pim_c.specs.Given.{config_of, given_event, place_of, range_of, route_of};
 ghost use Rattle.pim_c.specs.Placed.{PlacedCopy};
 ghost use Rattle.pim_c.specs.Recorded.{Written, given_text, placed_text, ranges_text, reload_text, routes_text};
 ghost use Rattle.pim_c.specs.Reloaded.{ReloadedCopy};
-ghost use Rattle.pim_c.specs.Rows.{RowTold};
-ghost use Rattle.pim_c.specs.Told.{guard_of, never, older_hosts_of, query_version_of, table_of_letter};
-ghost use Rattle.pim_c.specs.Trees.{ValueTold, link_in, link_of, neighbour_in, neighbour_of, source_tree_in, source_tree_of, tree_in, tree_of};
+ghost use Rattle.pim_c.specs.Rows.{RowWritten};
+ghost use Rattle.pim_c.specs.Returned.{guard_of, never, older_hosts_of, query_version_of, table_of_letter};
+ghost use Rattle.pim_c.specs.Trees.{ValueWritten, link_in, link_of, neighbour_in, neighbour_of, source_tree_in, source_tree_of, tree_in, tree_of};
 ghost use Rattle.pim_ifset.specs.Members.{iface_of};
 ghost use Rattle.pim_model.specs.Judging.{last_moment};
 ghost use Rattle.pim_model.specs.Timers.{next_moment};
@@ -17,16 +17,21 @@ ghost use Rattle.std.specs.List.{slice_get};
 ghost use Rattle.std.specs.Option.{option_map_or};
 ghost use Rattle.std.specs.Prelude.{◌≡◌, None, length, map, nat_lt, option_and_then, option_map, unwrap_or};
 
-use crate::given::{self, GivenInterface, GivenRange, GivenRoute, GivenSettings};
+use crate::given::{self, GivenConfiguration, GivenRange, GivenRoute};
 use crate::handle::Handle;
 use crate::recorded::{self, GivenCall};
-use crate::rows::ToldRow;
-use crate::told::{
-    self, Forwarding, LAST_MOMENT, MEMORY, MOMENT_FAR, NO_SETTING, NO_TABLE, NamedSource,
-    OlderGroup, Packet, PlaneRow,
+use crate::returned::{
+    self, DONE, Forwarding, LAST_MOMENT, MEMORY, MOMENT_FAR, NEVER, NO_ROUTER, NO_SETTING,
+    NO_TABLE, NamedSource, OlderGroup, Packet, PlaneRow, answer_number, failure_number,
+    kept_number, set_number, stop_number,
 };
-use crate::trees::{ToldLink, ToldNeighbour, ToldSourceTree, ToldTree};
+use crate::rows::{CRow, write_row};
+use crate::trees::{
+    CLink, CNeighbour, CSourceTree, CTree, write_link, write_neighbour, write_source_tree,
+    write_tree,
+};
 use pim_intake::LentEvent;
+use pim_session::Session;
 use pim_types::{Addr, Event, EventKind, IfaceId, SourceGroup};
 use std::alloc::Global;
 
@@ -35,17 +40,17 @@ use std::alloc::Global;
 pub extern "C" fn viq_core_new(
     alloc: Global,
     router: &mut Handle,
-    settings: &GivenSettings,
-    addresses: &[u32],
-    interfaces: &[GivenInterface],
-    routes: &[GivenRoute],
-    ranges: &[GivenRange],
+    given: &GivenConfiguration<'_>,
 ) -> u32
-    ensures { Made router.old.place.inside (config_of settings.now addresses.now interfaces.now routes.now ranges.now) result router.new.place.inside }
+    ensures { Made router.old.place.inside (config_of given.now) result router.new.place.inside }
 {
-    match given::config(alloc, settings, addresses, interfaces, routes, ranges) {
-        Ok(config) => router.make(alloc, config),
-        Err(_) => MEMORY,
+    let Ok(config) = given::config(alloc, given) else {
+        return MEMORY;
+    };
+    match Session::new(alloc, config) {
+        Ok(Ok(session)) => router.renew(alloc, session),
+        Ok(Err(refusal)) => u32::from(refusal.number()),
+        Err(fault) => u32::from(fault.number()),
     }
 }
 
@@ -55,17 +60,24 @@ pub extern "C" fn viq_core_reload(
     alloc: Global,
     router: &mut Handle,
     draw: u32,
-    settings: &GivenSettings,
-    addresses: &[u32],
-    interfaces: &[GivenInterface],
-    routes: &[GivenRoute],
-    ranges: &[GivenRange],
+    given: &GivenConfiguration<'_>,
 ) -> u32
-    ensures { ReloadedCopy router.old.place.inside (config_of settings.now addresses.now interfaces.now routes.now ranges.now) draw result
+    ensures { ReloadedCopy router.old.place.inside (config_of given.now) draw result
         router.new.place.inside }
 {
-    let config = given::config(alloc, settings, addresses, interfaces, routes, ranges);
-    router.reload_copied(alloc, draw, config)
+    let Ok(config) = given::config(alloc, given) else {
+        return router.refuse(alloc);
+    };
+    let Some(mut session) = router.take(alloc) else {
+        return NO_ROUTER;
+    };
+    let answer = session.reload(alloc, draw, &config);
+    router.put(session);
+    match answer {
+        Ok(Ok(())) => DONE,
+        Ok(Err(refusal)) => u32::from(refusal.number()),
+        Err(stop) => stop_number(stop),
+    }
 }
 
 /// Puts a router under another configuration by a map of places: of each old interface, by its number, the number of the
@@ -75,20 +87,28 @@ pub extern "C" fn viq_core_reload_places(
     alloc: Global,
     router: &mut Handle,
     draw: u32,
-    settings: &GivenSettings,
-    addresses: &[u32],
-    interfaces: &[GivenInterface],
-    routes: &[GivenRoute],
-    ranges: &[GivenRange],
+    given: &GivenConfiguration<'_>,
     places: &[u32],
 ) -> u32
     ensures { PlacedCopy (map place_of places.now) router.old.place.inside
-        (config_of settings.now addresses.now interfaces.now routes.now ranges.now) draw result router.new.place.inside }
+        (config_of given.now) draw result router.new.place.inside }
 {
-    let copied = given::config_by(
-        alloc, settings, addresses, interfaces, routes, ranges, places,
-    );
-    router.reload_places_copied(alloc, draw, copied)
+    let Ok(places) = given::places(alloc, places) else {
+        return router.refuse(alloc);
+    };
+    let Ok(config) = given::config(alloc, given) else {
+        return router.refuse(alloc);
+    };
+    let Some(mut session) = router.take(alloc) else {
+        return NO_ROUTER;
+    };
+    let answer = session.reload_places(alloc, draw, &config, places.as_slice());
+    router.put(session);
+    match answer {
+        Ok(Ok(())) => DONE,
+        Ok(Err(refusal)) => u32::from(refusal.number()),
+        Err(stop) => stop_number(stop),
+    }
 }
 
 /// Makes a router of saved bytes, which goes on from their state. If the handle had a router and the new one is made, the
@@ -97,7 +117,11 @@ pub extern "C" fn viq_core_reload_places(
 pub extern "C" fn viq_core_restore(alloc: Global, router: &mut Handle, bytes: &[u8]) -> u32
     ensures { Restored router.old.place.inside bytes.now result router.new.place.inside }
 {
-    router.restore(alloc, bytes)
+    match Session::restore(alloc, bytes) {
+        Ok(Ok(session)) => router.renew(alloc, session),
+        Ok(Err(refusal)) => u32::from(refusal.number()),
+        Err(fault) => u32::from(fault.number()),
+    }
 }
 
 /// Saves a router's state: as many of its bytes as the buffer holds are written into it, and how many there are.
@@ -108,10 +132,23 @@ pub extern "C" fn viq_core_save(
     room: &mut [u8],
     size: &mut usize,
 ) -> u32
-    ensures told { Saved router.old.place.inside result size.old size.new room.old room.new }
+    ensures written { Saved router.old.place.inside result size.old size.new room.old room.new }
     ensures stays { router.new.place.inside ≡ router.old.place.inside }
 {
-    router.save(alloc, room, size)
+    let Some(session) = router.take(alloc) else {
+        return NO_ROUTER;
+    };
+    let mut bytes = Vec::new(alloc);
+    let answer = session.save(&mut bytes);
+    router.put(session);
+    match answer {
+        Ok(()) => {
+            *size = bytes.len();
+            returned::write(room, bytes.as_slice());
+            DONE
+        }
+        Err(fault) => u32::from(fault.number()),
+    }
 }
 
 /// Frees a router with its memory. The handle then has none.
@@ -196,7 +233,10 @@ pub extern "C" fn viq_core_routes(
 ) -> u32
     ensures { Copied router.old.place.inside (given_event draw (EventKind.Routes (map route_of routes.now))) result router.new.place.inside }
 {
-    router.step_copied(alloc, given::new_routes(alloc, draw, routes))
+    match given::new_routes(alloc, draw, routes) {
+        Ok(event) => router.step(alloc, &LentEvent::of(&event)),
+        Err(_) => router.refuse(alloc),
+    }
 }
 
 /// The RP ranges are replaced.
@@ -209,7 +249,10 @@ pub extern "C" fn viq_core_ranges(
 ) -> u32
     ensures { Copied router.old.place.inside (given_event draw (EventKind.Rps (map range_of ranges.now))) result router.new.place.inside }
 {
-    router.step_copied(alloc, given::new_ranges(alloc, draw, ranges))
+    match given::new_ranges(alloc, draw, ranges) {
+        Ok(event) => router.step(alloc, &LentEvent::of(&event)),
+        Err(_) => router.refuse(alloc),
+    }
 }
 
 /// How many packets are to be sent: those of the last event that are untaken.
@@ -218,7 +261,12 @@ pub extern "C" fn viq_core_packets(alloc: Global, router: &mut Handle) -> usize
     ensures count { result ≡ length (packets_in router.old.place.inside) }
     ensures stays { router.new.place.inside ≡ router.old.place.inside }
 {
-    router.packets(alloc)
+    let Some(session) = router.take(alloc) else {
+        return 0;
+    };
+    let count = session.sent().len();
+    router.put(session);
+    count
 }
 
 /// Takes the first of the packets that `viq_core_packets` counts: its bytes are written into the buffer. False, with
@@ -232,7 +280,16 @@ pub extern "C" fn viq_core_take(
 ) -> bool
     ensures { PacketTaken router.old.place.inside result packet.old packet.new room.old room.new router.new.place.inside }
 {
-    router.take_packet(alloc, packet, room)
+    let Some(mut session) = router.take(alloc) else {
+        return false;
+    };
+    if !returned::write_packet(session.sent(), session.copies(), packet, room) {
+        router.put(session);
+        return false;
+    }
+    session.remove_first();
+    router.put(session);
+    true
 }
 
 /// Takes all packets away that `viq_core_packets` counts.
@@ -240,7 +297,11 @@ pub extern "C" fn viq_core_take(
 pub extern "C" fn viq_core_clear(alloc: Global, router: &mut Handle)
     ensures { router.new.place.inside ≡ option_map cleared router.old.place.inside }
 {
-    router.clear(alloc);
+    let Some(mut session) = router.take(alloc) else {
+        return;
+    };
+    session.clear();
+    router.put(session);
 }
 
 /// How many copies of a data packet the last event sent on links. They are the last of the packets that it sent on
@@ -250,7 +311,12 @@ pub extern "C" fn viq_core_copies(alloc: Global, router: &mut Handle) -> u32
     ensures copies { result ≡ option_map_or (λ r. r.copies) (standing_in router.old.place.inside) 0 }
     ensures stays { router.new.place.inside ≡ router.old.place.inside }
 {
-    router.copies(alloc)
+    let Some(session) = router.take(alloc) else {
+        return 0;
+    };
+    let copies = session.copies();
+    router.put(session);
+    copies
 }
 
 /// The timestamp, in ms, at which the next timer expires, or 2^64 - 1 where none runs.
@@ -259,7 +325,12 @@ pub extern "C" fn viq_core_next_moment(alloc: Global, router: &mut Handle) -> u6
     ensures moment { result ≡ unwrap_or (option_and_then (λ r. next_moment r.state) (standing_in router.old.place.inside)) never }
     ensures stays { router.new.place.inside ≡ router.old.place.inside }
 {
-    router.next_moment(alloc)
+    let Some(session) = router.take(alloc) else {
+        return NEVER;
+    };
+    let next = session.next_moment().unwrap_or(NEVER);
+    router.put(session);
+    next
 }
 
 /// Reads the rows of a table, which is named by the letter of its printed lines.
@@ -267,9 +338,17 @@ pub extern "C" fn viq_core_next_moment(alloc: Global, router: &mut Handle) -> u6
 pub extern "C" fn viq_core_read(alloc: Global, router: &mut Handle, letter: u8) -> u32
     ensures { ReadBy router.old.place.inside (table_of_letter letter) result router.new.place.inside }
 {
-    match told::table(letter) {
-        Some(table) => router.read(alloc, table),
-        None => NO_TABLE,
+    let Some(table) = returned::table(letter) else {
+        return NO_TABLE;
+    };
+    let Some(mut session) = router.take(alloc) else {
+        return NO_ROUTER;
+    };
+    let answer = session.read(table);
+    router.put(session);
+    match answer {
+        Ok(()) => DONE,
+        Err(fault) => u32::from(fault.number()),
     }
 }
 
@@ -279,7 +358,12 @@ pub extern "C" fn viq_core_rows(alloc: Global, router: &mut Handle) -> usize
     ensures count { result ≡ length (rows_in router.old.place.inside) }
     ensures stays { router.new.place.inside ≡ router.old.place.inside }
 {
-    router.rows(alloc)
+    let Some(session) = router.take(alloc) else {
+        return 0;
+    };
+    let count = session.rows().len();
+    router.put(session);
+    count
 }
 
 /// Reads one of the rows that were read, counted from 0. False where there is no row of this number.
@@ -288,12 +372,17 @@ pub extern "C" fn viq_core_row(
     alloc: Global,
     router: &mut Handle,
     index: usize,
-    row: &mut ToldRow,
+    row: &mut CRow,
 ) -> bool
-    ensures told { RowTold (slice_get (rows_in router.old.place.inside) index) result row.old row.new }
+    ensures written { RowWritten (slice_get (rows_in router.old.place.inside) index) result row.old row.new }
     ensures stays { router.new.place.inside ≡ router.old.place.inside }
 {
-    router.row(alloc, index, row)
+    let Some(session) = router.take(alloc) else {
+        return false;
+    };
+    let is_there = write_row(session.rows(), index, row);
+    router.put(session);
+    is_there
 }
 
 /// Sets which hosts of older versions of IGMP an interface hears, by a number: 0 none, 1 those of version 2, 2 those of
@@ -302,9 +391,17 @@ pub extern "C" fn viq_core_row(
 pub extern "C" fn viq_core_older(alloc: Global, router: &mut Handle, iface: u32, hosts: u32) -> u32
     ensures { HostsSetBy router.old.place.inside iface (older_hosts_of hosts) result router.new.place.inside }
 {
-    match told::older_hosts(hosts) {
-        Some(hosts) => router.set_older_hosts(alloc, IfaceId { number: iface }, hosts),
-        None => NO_SETTING,
+    let Some(hosts) = returned::older_hosts(hosts) else {
+        return NO_SETTING;
+    };
+    let Some(mut session) = router.take(alloc) else {
+        return NO_ROUTER;
+    };
+    let answer = session.set_older_hosts(alloc, IfaceId { number: iface }, hosts);
+    router.put(session);
+    match answer {
+        Ok(answer) => set_number(answer),
+        Err(fault) => u32::from(fault.number()),
     }
 }
 
@@ -318,9 +415,17 @@ pub extern "C" fn viq_core_query_version(
 ) -> u32
     ensures { VersionSetBy router.old.place.inside iface (query_version_of version) result router.new.place.inside }
 {
-    match told::query_version(version) {
-        Some(version) => router.set_query_version(alloc, IfaceId { number: iface }, version),
-        None => NO_SETTING,
+    let Some(version) = returned::query_version(version) else {
+        return NO_SETTING;
+    };
+    let Some(mut session) = router.take(alloc) else {
+        return NO_ROUTER;
+    };
+    let answer = session.set_query_version(alloc, IfaceId { number: iface }, version);
+    router.put(session);
+    match answer {
+        Ok(answer) => set_number(answer),
+        Err(fault) => u32::from(fault.number()),
     }
 }
 
@@ -330,9 +435,17 @@ pub extern "C" fn viq_core_query_version(
 pub extern "C" fn viq_core_guard(alloc: Global, router: &mut Handle, on: u32) -> u32
     ensures { GuardSetBy router.old.place.inside (guard_of on) result router.new.place.inside }
 {
-    match told::guard(on) {
-        Some(is_on) => router.set_guard(alloc, is_on),
-        None => NO_SETTING,
+    let Some(is_on) = returned::guard(on) else {
+        return NO_SETTING;
+    };
+    let Some(mut session) = router.take(alloc) else {
+        return NO_ROUTER;
+    };
+    let answer = session.set_guard(is_on);
+    router.put(session);
+    match answer {
+        Ok(()) => DONE,
+        Err(fault) => u32::from(fault.number()),
     }
 }
 
@@ -341,7 +454,15 @@ pub extern "C" fn viq_core_guard(alloc: Global, router: &mut Handle, on: u32) ->
 pub extern "C" fn viq_core_older_read(alloc: Global, router: &mut Handle) -> u32
     ensures { OlderRead router.old.place.inside result router.new.place.inside }
 {
-    router.read_older(alloc)
+    let Some(mut session) = router.take(alloc) else {
+        return NO_ROUTER;
+    };
+    let answer = session.read_older(alloc);
+    router.put(session);
+    match answer {
+        Ok(()) => DONE,
+        Err(fault) => u32::from(fault.number()),
+    }
 }
 
 /// How many groups in an older mode were read.
@@ -350,7 +471,12 @@ pub extern "C" fn viq_core_older_rows(alloc: Global, router: &mut Handle) -> usi
     ensures count { result ≡ length (older_rows_in router.old.place.inside) }
     ensures stays { router.new.place.inside ≡ router.old.place.inside }
 {
-    router.older_rows(alloc)
+    let Some(session) = router.take(alloc) else {
+        return 0;
+    };
+    let count = session.older_rows().len();
+    router.put(session);
+    count
 }
 
 /// Reads one of the groups in an older mode that were read, counted from 0. False where there is none of this number.
@@ -361,10 +487,15 @@ pub extern "C" fn viq_core_older_row(
     index: usize,
     row: &mut OlderGroup,
 ) -> bool
-    ensures told { OlderTold (slice_get (older_rows_in router.old.place.inside) index) result row.old row.new }
+    ensures written { OlderWritten (slice_get (older_rows_in router.old.place.inside) index) result row.old row.new }
     ensures stays { router.new.place.inside ≡ router.old.place.inside }
 {
-    router.older_row(alloc, index, row)
+    let Some(session) = router.take(alloc) else {
+        return false;
+    };
+    let is_there = returned::write_older(session.older_rows(), index, row);
+    router.put(session);
+    is_there
 }
 
 /// How data of a source to a group is forwarded, by the forwarding cache. False where the cache has no row of it.
@@ -376,12 +507,18 @@ pub extern "C" fn viq_core_cached(
     group: u32,
     forwarding: &mut Forwarding,
 ) -> bool
-    ensures told { CachedTold (standing_in router.old.place.inside) source group result forwarding.old forwarding.new }
+    ensures written { CachedWritten (standing_in router.old.place.inside) source group result forwarding.old forwarding.new }
     ensures stays { router.new.place.inside ≡ router.old.place.inside }
 {
     let source = Addr { bits: source };
     let group = Addr { bits: group };
-    router.cached(alloc, source, group, forwarding)
+    let Some(session) = router.take(alloc) else {
+        return false;
+    };
+    let row = session.cached(source, group);
+    let is_there = returned::write_cached(row, session.rp_interface(group), forwarding);
+    router.put(session);
+    is_there
 }
 
 /// What a data plane may do with the packets of a source to a group. False where the router takes all of them.
@@ -393,12 +530,17 @@ pub extern "C" fn viq_core_offload(
     group: u32,
     row: &mut PlaneRow,
 ) -> bool
-    ensures told { OffloadTold (standing_in router.old.place.inside) source group result row.old row.new }
+    ensures written { OffloadWritten (standing_in router.old.place.inside) source group result row.old row.new }
     ensures stays { router.new.place.inside ≡ router.old.place.inside }
 {
     let source = Addr { bits: source };
     let group = Addr { bits: group };
-    router.offload(alloc, source, group, row)
+    let Some(session) = router.take(alloc) else {
+        return false;
+    };
+    let is_there = returned::write_offload(session.offload(source, group), row);
+    router.put(session);
+    is_there
 }
 
 /// The macros of (*,G) of any group, each evaluated anew. False where there is no router that works.
@@ -407,12 +549,17 @@ pub extern "C" fn viq_core_tree(
     alloc: Global,
     router: &mut Handle,
     group: u32,
-    tree: &mut ToldTree,
+    tree: &mut CTree,
 ) -> bool
-    ensures told { ValueTold tree_of (tree_in (standing_in router.old.place.inside) group) result tree.old tree.new }
+    ensures written { ValueWritten tree_of (tree_in (standing_in router.old.place.inside) group) result tree.old tree.new }
     ensures stays { router.new.place.inside ≡ router.old.place.inside }
 {
-    router.tree(alloc, Addr { bits: group }, tree)
+    let Some(session) = router.take(alloc) else {
+        return false;
+    };
+    let is_there = write_tree(session.tree(Addr { bits: group }), tree);
+    router.put(session);
+    is_there
 }
 
 /// The macros of (S,G) and of (S,G,rpt) of any source and group, each evaluated anew. False where there is no router
@@ -423,15 +570,20 @@ pub extern "C" fn viq_core_source_tree(
     router: &mut Handle,
     source: u32,
     group: u32,
-    tree: &mut ToldSourceTree,
+    tree: &mut CSourceTree,
 ) -> bool
-    ensures told { ValueTold source_tree_of (source_tree_in (standing_in router.old.place.inside) group source)
+    ensures written { ValueWritten source_tree_of (source_tree_in (standing_in router.old.place.inside) group source)
         result tree.old tree.new }
     ensures stays { router.new.place.inside ≡ router.old.place.inside }
 {
     let source = Addr { bits: source };
     let group = Addr { bits: group };
-    router.source_tree(alloc, SourceGroup { source, group }, tree)
+    let Some(session) = router.take(alloc) else {
+        return false;
+    };
+    let is_there = write_source_tree(session.source_tree(SourceGroup { source, group }), tree);
+    router.put(session);
+    is_there
 }
 
 /// An interface with its DR and its querier. False where it isn't configured.
@@ -440,12 +592,17 @@ pub extern "C" fn viq_core_link(
     alloc: Global,
     router: &mut Handle,
     iface: u32,
-    link: &mut ToldLink,
+    link: &mut CLink,
 ) -> bool
-    ensures told { ValueTold link_of (link_in (standing_in router.old.place.inside) iface) result link.old link.new }
+    ensures written { ValueWritten link_of (link_in (standing_in router.old.place.inside) iface) result link.old link.new }
     ensures stays { router.new.place.inside ≡ router.old.place.inside }
 {
-    router.link(alloc, IfaceId { number: iface }, link)
+    let Some(session) = router.take(alloc) else {
+        return false;
+    };
+    let is_there = write_link(session.link(IfaceId { number: iface }), link);
+    router.put(session);
+    is_there
 }
 
 /// A neighbour on an interface with the options of its last Hello. False where there is none with the address.
@@ -455,15 +612,20 @@ pub extern "C" fn viq_core_neighbour(
     router: &mut Handle,
     iface: u32,
     address: u32,
-    neighbour: &mut ToldNeighbour,
+    neighbour: &mut CNeighbour,
 ) -> bool
-    ensures told { ValueTold neighbour_of (neighbour_in (standing_in router.old.place.inside) iface address)
+    ensures written { ValueWritten neighbour_of (neighbour_in (standing_in router.old.place.inside) iface address)
         result neighbour.old neighbour.new }
     ensures stays { router.new.place.inside ≡ router.old.place.inside }
 {
     let iface = IfaceId { number: iface };
     let address = Addr { bits: address };
-    router.neighbour(alloc, iface, address, neighbour)
+    let Some(session) = router.take(alloc) else {
+        return false;
+    };
+    let is_there = write_neighbour(session.neighbour(iface, address), neighbour);
+    router.put(session);
+    is_there
 }
 
 /// How many sources the last event listed as changed in the forwarding cache.
@@ -472,7 +634,12 @@ pub extern "C" fn viq_core_changed(alloc: Global, router: &mut Handle) -> usize
     ensures count { result ≡ length (changed_in router.old.place.inside) }
     ensures stays { router.new.place.inside ≡ router.old.place.inside }
 {
-    router.changed(alloc)
+    let Some(session) = router.take(alloc) else {
+        return 0;
+    };
+    let count = session.changed().len();
+    router.put(session);
+    count
 }
 
 /// Reads one of the sources that the last event listed as changed, counted from 0. False where there is no source of
@@ -484,10 +651,15 @@ pub extern "C" fn viq_core_changed_source(
     index: usize,
     name: &mut NamedSource,
 ) -> bool
-    ensures told { NameTold (slice_get (changed_in router.old.place.inside) index) result name.old name.new }
+    ensures written { NameWritten (slice_get (changed_in router.old.place.inside) index) result name.old name.new }
     ensures stays { router.new.place.inside ≡ router.old.place.inside }
 {
-    router.changed_source(alloc, index, name)
+    let Some(session) = router.take(alloc) else {
+        return false;
+    };
+    let is_there = returned::write_name(session.changed(), index, name);
+    router.put(session);
+    is_there
 }
 
 /// Whether what is offered of a source may have changed in the last event.
@@ -503,7 +675,12 @@ pub extern "C" fn viq_core_may_differ(
 {
     let source = Addr { bits: source };
     let group = Addr { bits: group };
-    router.may_differ(alloc, source, group)
+    let Some(session) = router.take(alloc) else {
+        return true;
+    };
+    let may_differ = session.may_differ(source, group);
+    router.put(session);
+    may_differ
 }
 
 /// A data plane saw a packet of a source to a group on the interface.
@@ -521,7 +698,12 @@ pub extern "C" fn viq_core_seen(
     let iface = IfaceId { number: iface };
     let source = Addr { bits: source };
     let group = Addr { bits: group };
-    router.seen(alloc, draw, iface, source, group)
+    let Some(mut session) = router.take(alloc) else {
+        return NO_ROUTER;
+    };
+    let answer = answer_number(session.packet_seen(alloc, draw, iface, source, group));
+    router.put(session);
+    answer
 }
 
 /// A data plane forwarded its last packet of a source to a group at the timestamp, in ms, at most 2^62.
@@ -540,7 +722,15 @@ pub extern "C" fn viq_core_keep(
     }
     let source = Addr { bits: source };
     let group = Addr { bits: group };
-    router.keep(alloc, source, group, moment)
+    let Some(mut session) = router.take(alloc) else {
+        return NO_ROUTER;
+    };
+    let answer = session.keep(source, group, moment);
+    router.put(session);
+    match answer {
+        Ok(runs) => kept_number(runs),
+        Err(fault) => failure_number(fault),
+    }
 }
 
 /// By how much the meter of visited trie nodes rose in the last event.
@@ -549,7 +739,12 @@ pub extern "C" fn viq_core_probes(alloc: Global, router: &mut Handle) -> u64
     ensures probes { result ≡ probes_in router.old.place.inside }
     ensures stays { router.new.place.inside ≡ router.old.place.inside }
 {
-    router.probes(alloc)
+    let Some(session) = router.take(alloc) else {
+        return 0;
+    };
+    let probes = session.probes();
+    router.put(session);
+    probes
 }
 
 /// The rows of the forwarding cache that the last event evaluated, put in and took out.
@@ -558,7 +753,12 @@ pub extern "C" fn viq_core_touched(alloc: Global, router: &mut Handle) -> u64
     ensures touched { result ≡ touched_in router.old.place.inside }
     ensures stays { router.new.place.inside ≡ router.old.place.inside }
 {
-    router.touched(alloc)
+    let Some(session) = router.take(alloc) else {
+        return 0;
+    };
+    let touched = session.touched();
+    router.put(session);
+    touched
 }
 
 /// The record of a call without a list: as many of its bytes as the buffer holds are written into it, and how many there
@@ -609,18 +809,14 @@ pub extern "C" fn viq_core_record_ranges(
 pub extern "C" fn viq_core_record_reload(
     alloc: Global,
     call: &GivenCall,
-    settings: &GivenSettings,
-    addresses: &[u32],
-    interfaces: &[GivenInterface],
-    routes: &[GivenRoute],
-    ranges: &[GivenRange],
+    given: &GivenConfiguration<'_>,
     room: &mut [u8],
     size: &mut usize,
 ) -> u32
-    ensures { Written (reload_text call.now (config_of settings.now addresses.now interfaces.now routes.now ranges.now))
+    ensures { Written (reload_text call.now (config_of given.now))
         result size.old size.new room.old room.new }
 {
-    let Ok(config) = given::config(alloc, settings, addresses, interfaces, routes, ranges) else {
+    let Ok(config) = given::config(alloc, given) else {
         return MEMORY;
     };
     recorded::tell(recorded::reload_record(alloc, call, &config), room, size)
@@ -631,26 +827,19 @@ pub extern "C" fn viq_core_record_reload(
 pub extern "C" fn viq_core_record_reload_places(
     alloc: Global,
     call: &GivenCall,
-    settings: &GivenSettings,
-    addresses: &[u32],
-    interfaces: &[GivenInterface],
-    routes: &[GivenRoute],
-    ranges: &[GivenRange],
+    given: &GivenConfiguration<'_>,
     places: &[u32],
     room: &mut [u8],
     size: &mut usize,
 ) -> u32
-    ensures { Written (placed_text call.now (config_of settings.now addresses.now interfaces.now routes.now ranges.now) places.now)
+    ensures { Written (placed_text call.now (config_of given.now) places.now)
         result size.old size.new room.old room.new }
 {
-    let Ok(config) = given::config(alloc, settings, addresses, interfaces, routes, ranges) else {
+    let Ok(config) = given::config(alloc, given) else {
         return MEMORY;
     };
-    recorded::tell(
-        recorded::placed_record(alloc, call, &config, places),
-        room,
-        size,
-    )
+    let record = recorded::placed_record(alloc, call, &config, places);
+    recorded::tell(record, room, size)
 }
 
 /// The sum of the packets that are to be sent, as it is in a record.
@@ -659,5 +848,10 @@ pub extern "C" fn viq_core_sum(alloc: Global, router: &mut Handle) -> u32
     ensures sum { result ≡ sum_of (packets_in router.old.place.inside) }
     ensures stays { router.new.place.inside ≡ router.old.place.inside }
 {
-    router.sum(alloc)
+    let Some(session) = router.take(alloc) else {
+        return pim_saver::sum_of(&[]);
+    };
+    let sum = pim_saver::sum_of(session.sent());
+    router.put(session);
+    sum
 }

@@ -59,6 +59,18 @@ pub struct GivenSettings {
     pub stays_on_shared_tree: bool,
 }
 
+/// A configuration: the settings, and the lists that stand beside them.
+#[repr(C)]
+#[derive(Drop)]
+pub struct GivenConfiguration<'a> {
+    pub settings: GivenSettings,
+    /// The own addresses of no interface.
+    pub addresses: &'a [u32],
+    pub interfaces: &'a [GivenInterface],
+    pub routes: &'a [GivenRoute],
+    pub ranges: &'a [GivenRange],
+}
+
 // An interface of the configuration that C gives.
 fn interface(given: &GivenInterface) -> InterfaceConfig
     ensures { result ≡ interface_of given.now }
@@ -167,8 +179,8 @@ fn place(given: u32) -> Option<u32>
     Some(given)
 }
 
-// Where the old interfaces go, by their numbers.
-fn places(alloc: Global, given: &[u32]) -> Result<Vec<Option<u32>>, AllocError>
+/// Where the old interfaces go, by their numbers.
+pub fn places(alloc: Global, given: &[u32]) -> Result<Vec<Option<u32>>, AllocError>
     ensures { IfOk result (λ all. all.items ≡ map place_of given.now) }
 {
     let mut all = Vec::new(alloc);
@@ -178,22 +190,15 @@ fn places(alloc: Global, given: &[u32]) -> Result<Vec<Option<u32>>, AllocError>
     Ok(all)
 }
 
-/// The configuration that the given parts describe.
-pub fn config(
-    alloc: Global,
-    settings: &GivenSettings,
-    given_addresses: &[u32],
-    given_interfaces: &[GivenInterface],
-    given_routes: &[GivenRoute],
-    given_ranges: &[GivenRange],
-) -> Result<Config, AllocError>
-    ensures { IfOk result (λ config. config
-        ≡ config_of settings.now given_addresses.now given_interfaces.now given_routes.now given_ranges.now) }
+/// The configuration that a given one describes.
+pub fn config(alloc: Global, given: &GivenConfiguration<'_>) -> Result<Config, AllocError>
+    ensures { IfOk result (λ config. config ≡ config_of given.now) }
 {
-    let interfaces = interfaces(alloc, given_interfaces)?;
-    let addresses = addresses(alloc, given_addresses)?;
-    let routes = routes(alloc, given_routes)?;
-    let rps = ranges(alloc, given_ranges)?;
+    let interfaces = interfaces(alloc, given.interfaces)?;
+    let addresses = addresses(alloc, given.addresses)?;
+    let routes = routes(alloc, given.routes)?;
+    let rps = ranges(alloc, given.ranges)?;
+    let settings = &given.settings;
     let spt = if settings.stays_on_shared_tree {
         SptSwitch::Never
     } else {
@@ -211,39 +216,6 @@ pub fn config(
         routes,
         rps,
     })
-}
-
-/// A configuration, and where the old interfaces go.
-#[derive(Drop)]
-pub struct Copied {
-    pub config: Config,
-    pub places: Vec<Option<u32>>,
-}
-
-/// The configuration that the given parts describe, and where the old interfaces go by it.
-pub fn config_by(
-    alloc: Global,
-    settings: &GivenSettings,
-    given_addresses: &[u32],
-    given_interfaces: &[GivenInterface],
-    given_routes: &[GivenRoute],
-    given_ranges: &[GivenRange],
-    given_places: &[u32],
-) -> Result<Copied, AllocError>
-    ensures { IfOk result (λ copied. (copied.config
-        ≡ config_of settings.now given_addresses.now given_interfaces.now given_routes.now given_ranges.now)
-        × (copied.places.items ≡ map place_of given_places.now)) }
-{
-    let places = places(alloc, given_places)?;
-    let config = config(
-        alloc,
-        settings,
-        given_addresses,
-        given_interfaces,
-        given_routes,
-        given_ranges,
-    )?;
-    Ok(Copied { config, places })
 }
 
 /// New unicast routes.

@@ -8,6 +8,6 @@ pub mod handle;
 pub mod place;
 pub mod pointed;
 pub mod recorded;
+pub mod returned;
 pub mod rows;
-pub mod told;
 pub mod trees;

@@ -3,7 +3,7 @@ ghost use Rattle.pim_c.specs.Recorded.{Written, answered_of, given_front, given_
 ghost use Rattle.std.specs.Prelude.{◌≡◌, ◌++◌, IfOk, OnErr, OnOk};
 
 use crate::given::{self, GivenRange, GivenRoute};
-use crate::told::{self, DONE, MEMORY};
+use crate::returned::{self, DONE, MEMORY};
 use pim_saver::Answered;
 use pim_types::{Addr, Config, IfaceId};
 use std::alloc::{AllocError, Global};
@@ -150,7 +150,7 @@ pub fn tell(written: Result<Vec<u8>, AllocError>, room: &mut [u8], size: &mut us
     match written {
         Ok(bytes) => {
             *size = bytes.len();
-            told::write(room, bytes.as_slice());
+            returned::write(room, bytes.as_slice());
             DONE
         }
         Err(_) => MEMORY,

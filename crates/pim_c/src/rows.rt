@@ -1,11 +1,11 @@
 //! Rows of tables as C reads them: the columns of each kind of row in a value of their own.
 ghost use Rattle.std.specs.Prelude.{◌≡◌, Some};
 ghost use Rattle.pim_rows.specs.declared.table.Row.{Row};
-ghost use Rattle.pim_c.specs.Rows.{RowTold, blank, downstream_number, is_loser_role, register_number, row_of};
-ghost use Rattle.pim_c.specs.Told.{source_or_zero};
+ghost use Rattle.pim_c.specs.Rows.{RowWritten, blank, downstream_number, is_loser_role, register_number, row_of};
+ghost use Rattle.pim_c.specs.Returned.{source_or_zero};
 ghost use Rattle.std.specs.List.{slice_get};
 
-use crate::told::NEVER;
+use crate::returned::NEVER;
 use pim_rows::Row;
 use pim_rows::table::{DownstreamState, RegisterName};
 use pim_types::fact::AssertRole;
@@ -117,7 +117,7 @@ pub struct ActiveColumns {
 /// A row of a table. The columns of other kinds than the row's are 0.
 #[repr(C)]
 #[derive(Drop)]
-pub struct ToldRow {
+pub struct CRow {
     /// The letter of the table.
     pub table: u32,
     pub neighbour: NeighbourColumns,
@@ -174,10 +174,10 @@ fn is_loser(role: AssertRole) -> bool
 }
 
 // A row of the table of the letter, with no columns yet.
-fn blank(letter: u8) -> ToldRow
+fn blank(letter: u8) -> CRow
     ensures { result ≡ blank letter }
 {
-    ToldRow {
+    CRow {
         table: u32::from(letter),
         neighbour: NeighbourColumns {
             iface: 0,
@@ -234,7 +234,7 @@ fn blank(letter: u8) -> ToldRow
 }
 
 // A neighbour's row as C reads it.
-fn neighbour(iface: IfaceId, address: Addr, end: Option<u64>) -> ToldRow
+fn neighbour_row(iface: IfaceId, address: Addr, end: Option<u64>) -> CRow
     ensures { result ≡ row_of (Row.Neighbour iface address end) }
 {
     let neighbour = NeighbourColumns {
@@ -242,14 +242,14 @@ fn neighbour(iface: IfaceId, address: Addr, end: Option<u64>) -> ToldRow
         address: address.bits,
         end: end.unwrap_or(NEVER),
     };
-    ToldRow {
+    CRow {
         neighbour,
         ..blank(b'N')
     }
 }
 
 // A group record's row as C reads it.
-fn group(iface: IfaceId, group: Addr, is_exclude: bool, end: Option<u64>) -> ToldRow
+fn group_row(iface: IfaceId, group: Addr, is_exclude: bool, end: Option<u64>) -> CRow
     ensures { result ≡ row_of (Row.Group iface group is_exclude end) }
 {
     let group = GroupColumns {
@@ -258,14 +258,14 @@ fn group(iface: IfaceId, group: Addr, is_exclude: bool, end: Option<u64>) -> Tol
         is_exclude,
         end: end.unwrap_or(NEVER),
     };
-    ToldRow {
+    CRow {
         group,
         ..blank(b'G')
     }
 }
 
 // A source record's row as C reads it.
-fn source(iface: IfaceId, group: Addr, source: Addr, end: Option<u64>) -> ToldRow
+fn source_row(iface: IfaceId, group: Addr, source: Addr, end: Option<u64>) -> CRow
     ensures { result ≡ row_of (Row.Source iface group source end) }
 {
     let source = SourceColumns {
@@ -274,14 +274,14 @@ fn source(iface: IfaceId, group: Addr, source: Addr, end: Option<u64>) -> ToldRo
         source: source.bits,
         end: end.unwrap_or(NEVER),
     };
-    ToldRow {
+    CRow {
         source,
         ..blank(b'S')
     }
 }
 
 // A downstream state's row as C reads it.
-fn downstream(key: Key, state: DownstreamState, end: Option<u64>, pending: Option<u64>) -> ToldRow
+fn downstream_row(key: Key, state: DownstreamState, end: Option<u64>, pending: Option<u64>) -> CRow
     ensures { result ≡ row_of (Row.Downstream key state end pending) }
 {
     let downstream = DownstreamColumns {
@@ -293,14 +293,14 @@ fn downstream(key: Key, state: DownstreamState, end: Option<u64>, pending: Optio
         end: end.unwrap_or(NEVER),
         pending: pending.unwrap_or(NEVER),
     };
-    ToldRow {
+    CRow {
         downstream,
         ..blank(b'D')
     }
 }
 
 // An assert's row as C reads it.
-fn asserted(key: Key, role: AssertRole, winner: Addr, end: u64) -> ToldRow
+fn asserted_row(key: Key, role: AssertRole, winner: Addr, end: u64) -> CRow
     ensures { result ≡ row_of (Row.Assert key role winner end) }
 {
     let asserted = AssertColumns {
@@ -311,14 +311,14 @@ fn asserted(key: Key, role: AssertRole, winner: Addr, end: u64) -> ToldRow
         winner: winner.bits,
         end,
     };
-    ToldRow {
+    CRow {
         asserted,
         ..blank(b'A')
     }
 }
 
 // An upstream state's row as C reads it.
-fn upstream(group: Addr, source: Option<Addr>, next_join: u64) -> ToldRow
+fn upstream_row(group: Addr, source: Option<Addr>, next_join: u64) -> CRow
     ensures { result ≡ row_of (Row.Upstream group source next_join) }
 {
     let upstream = UpstreamColumns {
@@ -326,14 +326,14 @@ fn upstream(group: Addr, source: Option<Addr>, next_join: u64) -> ToldRow
         source: source_or_zero(source),
         next_join,
     };
-    ToldRow {
+    CRow {
         upstream,
         ..blank(b'U')
     }
 }
 
 // An (S,G,rpt) upstream state's row as C reads it.
-fn rpt(group: Addr, source: Addr, is_pruned: bool) -> ToldRow
+fn rpt_row(group: Addr, source: Addr, is_pruned: bool) -> CRow
     ensures { result ≡ row_of (Row.Tree group source is_pruned) }
 {
     let rpt = RptColumns {
@@ -341,17 +341,17 @@ fn rpt(group: Addr, source: Addr, is_pruned: bool) -> ToldRow
         source: source.bits,
         is_pruned,
     };
-    ToldRow { rpt, ..blank(b'R') }
+    CRow { rpt, ..blank(b'R') }
 }
 
 // A source's row, with its register, as C reads it.
-fn active(
+fn active_row(
     group: Addr,
     source: Addr,
     keepalive: Option<u64>,
     spt: bool,
     register: Option<RegisterName>,
-) -> ToldRow
+) -> CRow
     ensures { result ≡ row_of (Row.Active group source keepalive spt register) }
 {
     let active = ActiveColumns {
@@ -361,14 +361,14 @@ fn active(
         spt_bit: spt,
         register_state: register_number(register),
     };
-    ToldRow {
+    CRow {
         active,
         ..blank(b'F')
     }
 }
 
 /// A row as C reads it. Each column of each kind is named, so that none is left out.
-pub fn row(row: &Row) -> ToldRow
+pub fn c_row(row: &Row) -> CRow
     ensures { result ≡ row_of row.now }
 {
     match *row {
@@ -376,58 +376,58 @@ pub fn row(row: &Row) -> ToldRow
             iface,
             address,
             end,
-        } => neighbour(iface, address, end),
+        } => neighbour_row(iface, address, end),
         Row::Group {
             iface,
-            group: of,
+            group,
             is_exclude,
             end,
-        } => group(iface, of, is_exclude, end),
+        } => group_row(iface, group, is_exclude, end),
         Row::Source {
             iface,
             group,
-            source: of,
+            source,
             end,
-        } => source(iface, group, of, end),
+        } => source_row(iface, group, source, end),
         Row::Downstream {
             key,
             state,
             end,
             pending,
-        } => downstream(key, state, end, pending),
+        } => downstream_row(key, state, end, pending),
         Row::Assert {
             key,
             role,
             winner,
             end,
-        } => asserted(key, role, winner, end),
+        } => asserted_row(key, role, winner, end),
         Row::Upstream {
             group,
             source,
             next_join,
-        } => upstream(group, source, next_join),
+        } => upstream_row(group, source, next_join),
         Row::Tree {
             group,
             source,
             is_pruned,
-        } => rpt(group, source, is_pruned),
+        } => rpt_row(group, source, is_pruned),
         Row::Active {
             group,
             source,
             keepalive,
             spt,
             register,
-        } => active(group, source, keepalive, spt, register),
+        } => active_row(group, source, keepalive, spt, register),
     }
 }
 
 /// Writes out one of the rows, if it exists.
-pub fn tell_row(rows: &[Row], index: usize, out: &mut ToldRow) -> bool
-    ensures { RowTold (slice_get rows.now index) result out.old out.new }
+pub fn write_row(rows: &[Row], index: usize, out: &mut CRow) -> bool
+    ensures { RowWritten (slice_get rows.now index) result out.old out.new }
 {
     match rows.get(index) {
         Some(found) => {
-            *out = row(found);
+            *out = c_row(found);
             true
         }
         None => false,

@@ -2,9 +2,9 @@
 ghost use Rattle.std.specs.Prelude.{◌≡◌, option_map};
 ghost use Rattle.pim_ifset.specs.Members.{has};
 ghost use Rattle.pim_c.specs.Called.{interface_bits};
-ghost use Rattle.pim_c.specs.Trees.{ValueTold, cause_number, hop_of, lan_delay_of, link_of, neighbour_of, number_of_option, path_of, querier_of, source_tree_of, state_number, tree_of};
+ghost use Rattle.pim_c.specs.Trees.{ValueWritten, cause_number, hop_of, lan_delay_of, link_of, neighbour_of, number_of_option, path_of, querier_of, source_tree_of, state_number, tree_of};
 
-use crate::told::{Interfaces, NEVER, words};
+use crate::returned::{Interfaces, NEVER, words};
 use pim_ifset::IfSet;
 use pim_router::{Link, Neighbour, RpfCause, SourceTree, Tree};
 use pim_types::fact::{QuerierRole, QuerierRow};
@@ -13,7 +13,7 @@ use pim_types::{Addr, Hop, LanDelay, Path, TreeState};
 /// A number that may not be there; it is 0 then.
 #[repr(C)]
 #[derive(Drop)]
-pub struct ToldNumber {
+pub struct CNumber {
     pub is_there: bool,
     pub value: u32,
 }
@@ -21,7 +21,7 @@ pub struct ToldNumber {
 /// A neighbour that may not be there; all its numbers are 0 then.
 #[repr(C)]
 #[derive(Drop)]
-pub struct ToldHop {
+pub struct CHop {
     pub is_there: bool,
     pub iface: u32,
     pub address: u32,
@@ -30,7 +30,7 @@ pub struct ToldHop {
 /// A route that may not be there; all its numbers are 0 then.
 #[repr(C)]
 #[derive(Drop)]
-pub struct ToldPath {
+pub struct CPath {
     pub is_there: bool,
     pub is_connected: bool,
     pub iface: u32,
@@ -42,10 +42,10 @@ pub struct ToldPath {
 /// The macros of (*,G).
 #[repr(C)]
 #[derive(Drop)]
-pub struct ToldTree {
-    pub rp: ToldNumber,
-    pub path: ToldPath,
-    pub rpf_neighbour: ToldHop,
+pub struct CTree {
+    pub rp: CNumber,
+    pub path: CPath,
+    pub rpf_neighbour: CHop,
     pub rpf_cause: u32,
     pub join_desired: bool,
     pub joins: Interfaces,
@@ -59,11 +59,11 @@ pub struct ToldTree {
 /// The macros of (S,G) and of (S,G,rpt).
 #[repr(C)]
 #[derive(Drop)]
-pub struct ToldSourceTree {
-    pub path: ToldPath,
-    pub rpf_neighbour: ToldHop,
+pub struct CSourceTree {
+    pub path: CPath,
+    pub rpf_neighbour: CHop,
     pub rpf_cause: u32,
-    pub rpf_neighbour_rpt: ToldHop,
+    pub rpf_neighbour_rpt: CHop,
     pub rpt_state: u32,
     pub spt_bit: bool,
     pub is_kept_alive: bool,
@@ -89,7 +89,7 @@ pub struct ToldSourceTree {
 /// Who queries on an interface.
 #[repr(C)]
 #[derive(Drop)]
-pub struct ToldQuerier {
+pub struct CQuerier {
     /// 0 where the interface is down, 1 where the router queries, 2 where another one does.
     pub role: u32,
     /// When the next general query leaves, or when the router takes over from the other, in ms.
@@ -103,18 +103,18 @@ pub struct ToldQuerier {
 /// An interface.
 #[repr(C)]
 #[derive(Drop)]
-pub struct ToldLink {
+pub struct CLink {
     pub is_up: bool,
     pub is_dr: bool,
     /// 0 where the interface is down.
     pub dr: u32,
-    pub querier: ToldQuerier,
+    pub querier: CQuerier,
 }
 
 /// The LAN Prune Delay option, which may not be there; all its numbers are 0 then.
 #[repr(C)]
 #[derive(Drop)]
-pub struct ToldLanDelay {
+pub struct CLanDelay {
     pub is_there: bool,
     pub can_track: bool,
     pub propagation_delay: u32,
@@ -124,24 +124,24 @@ pub struct ToldLanDelay {
 /// A neighbour with its options.
 #[repr(C)]
 #[derive(Drop)]
-pub struct ToldNeighbour {
+pub struct CNeighbour {
     /// In ms, or `NEVER`.
     pub end: u64,
-    pub priority: ToldNumber,
-    pub generation: ToldNumber,
-    pub lan_delay: ToldLanDelay,
+    pub priority: CNumber,
+    pub generation: CNumber,
+    pub lan_delay: CLanDelay,
 }
 
 // An optional number as C reads it.
-fn number(value: Option<u32>) -> ToldNumber
+fn c_number(value: Option<u32>) -> CNumber
     ensures { result ≡ number_of_option value }
 {
     match value {
-        Some(value) => ToldNumber {
+        Some(value) => CNumber {
             is_there: true,
             value,
         },
-        None => ToldNumber {
+        None => CNumber {
             is_there: false,
             value: 0,
         },
@@ -149,15 +149,15 @@ fn number(value: Option<u32>) -> ToldNumber
 }
 
 // RP(G).
-fn address(value: Option<Addr>) -> ToldNumber
+fn c_address(value: Option<Addr>) -> CNumber
     ensures { result ≡ number_of_option (option_map (λ a. a.bits) value) }
 {
     match value {
-        Some(address) => ToldNumber {
+        Some(address) => CNumber {
             is_there: true,
             value: address.bits,
         },
-        None => ToldNumber {
+        None => CNumber {
             is_there: false,
             value: 0,
         },
@@ -165,16 +165,16 @@ fn address(value: Option<Addr>) -> ToldNumber
 }
 
 // A neighbour on an interface, if there is one, as C reads it.
-fn hop(hop: Option<Hop>) -> ToldHop
+fn c_hop(hop: Option<Hop>) -> CHop
     ensures { result ≡ hop_of hop }
 {
     match hop {
-        Some(hop) => ToldHop {
+        Some(hop) => CHop {
             is_there: true,
             iface: hop.iface.number,
             address: hop.address.bits,
         },
-        None => ToldHop {
+        None => CHop {
             is_there: false,
             iface: 0,
             address: 0,
@@ -183,11 +183,11 @@ fn hop(hop: Option<Hop>) -> ToldHop
 }
 
 // A path to an address, if there is one, as C reads it.
-fn path(path: Option<Path>) -> ToldPath
+fn c_path(path: Option<Path>) -> CPath
     ensures { result ≡ path_of path }
 {
     match path {
-        Some(path) => ToldPath {
+        Some(path) => CPath {
             is_there: true,
             is_connected: path.is_connected,
             iface: path.iface.number,
@@ -195,7 +195,7 @@ fn path(path: Option<Path>) -> ToldPath
             preference: path.preference,
             metric: path.metric,
         },
-        None => ToldPath {
+        None => CPath {
             is_there: false,
             is_connected: false,
             iface: 0,
@@ -207,7 +207,7 @@ fn path(path: Option<Path>) -> ToldPath
 }
 
 // The number of a cause of RPF', as C reads it.
-fn cause(cause: RpfCause) -> u32
+fn cause_number(cause: RpfCause) -> u32
     ensures { result ≡ cause_number cause }
 {
     match cause {
@@ -222,7 +222,7 @@ fn cause(cause: RpfCause) -> u32
 }
 
 // The number of an (S,G,rpt) upstream state, as C reads it.
-fn state(state: TreeState) -> u32
+fn state_number(state: TreeState) -> u32
     ensures { result ≡ state_number state }
 {
     match state {
@@ -233,67 +233,67 @@ fn state(state: TreeState) -> u32
 }
 
 // A set's interfaces, without the register tunnel.
-fn bits(set: IfSet) -> Interfaces
+fn interface_bits(set: IfSet) -> Interfaces
     ensures { result ≡ interface_bits (has set) }
 {
     words(set)
 }
 
 /// The macros of (*,G), as C reads them.
-fn tree(tree: &Tree) -> ToldTree
+fn c_tree(tree: &Tree) -> CTree
     ensures { result ≡ tree_of tree.now }
 {
-    ToldTree {
-        rp: address(tree.rp),
-        path: path(tree.rp_path),
-        rpf_neighbour: hop(tree.rpf_neighbour),
-        rpf_cause: cause(tree.rpf_cause),
+    CTree {
+        rp: c_address(tree.rp),
+        path: c_path(tree.rp_path),
+        rpf_neighbour: c_hop(tree.rpf_neighbour),
+        rpf_cause: cause_number(tree.rpf_cause),
         join_desired: tree.join_desired,
-        joins: bits(tree.joins),
-        local_receiver_include: bits(tree.local_receiver_include),
-        pim_include: bits(tree.pim_include),
-        lost_assert: bits(tree.lost_assert),
-        won_assert: bits(tree.won_assert),
-        immediate_olist: bits(tree.immediate_olist),
+        joins: interface_bits(tree.joins),
+        local_receiver_include: interface_bits(tree.local_receiver_include),
+        pim_include: interface_bits(tree.pim_include),
+        lost_assert: interface_bits(tree.lost_assert),
+        won_assert: interface_bits(tree.won_assert),
+        immediate_olist: interface_bits(tree.immediate_olist),
     }
 }
 
 /// The macros of (S,G) and of (S,G,rpt), as C reads them.
-fn source_tree(tree: &SourceTree) -> ToldSourceTree
+fn c_source_tree(tree: &SourceTree) -> CSourceTree
     ensures { result ≡ source_tree_of tree.now }
 {
-    ToldSourceTree {
-        path: path(tree.path),
-        rpf_neighbour: hop(tree.rpf_neighbour),
-        rpf_cause: cause(tree.rpf_cause),
-        rpf_neighbour_rpt: hop(tree.rpf_neighbour_rpt),
-        rpt_state: state(tree.tree_state),
+    CSourceTree {
+        path: c_path(tree.path),
+        rpf_neighbour: c_hop(tree.rpf_neighbour),
+        rpf_cause: cause_number(tree.rpf_cause),
+        rpf_neighbour_rpt: c_hop(tree.rpf_neighbour_rpt),
+        rpt_state: state_number(tree.tree_state),
         spt_bit: tree.spt_bit,
         is_kept_alive: tree.is_kept_alive,
         join_desired: tree.join_desired,
         prune_desired: tree.prune_desired,
         could_register: tree.could_register,
         has_tunnel: tree.joins.has_tunnel(),
-        joins: bits(tree.joins),
-        prunes: bits(tree.prunes),
-        local_receiver_include: bits(tree.local_receiver_include),
-        local_receiver_exclude: bits(tree.local_receiver_exclude),
-        pim_include: bits(tree.pim_include),
-        pim_exclude: bits(tree.pim_exclude),
-        lost_assert: bits(tree.lost_assert),
-        lost_assert_rpt: bits(tree.lost_assert_rpt),
-        won_assert: bits(tree.won_assert),
-        immediate_olist: bits(tree.immediate_olist),
-        inherited_olist: bits(tree.inherited_olist),
-        inherited_olist_rpt: bits(tree.inherited_olist_rpt),
+        joins: interface_bits(tree.joins),
+        prunes: interface_bits(tree.prunes),
+        local_receiver_include: interface_bits(tree.local_receiver_include),
+        local_receiver_exclude: interface_bits(tree.local_receiver_exclude),
+        pim_include: interface_bits(tree.pim_include),
+        pim_exclude: interface_bits(tree.pim_exclude),
+        lost_assert: interface_bits(tree.lost_assert),
+        lost_assert_rpt: interface_bits(tree.lost_assert_rpt),
+        won_assert: interface_bits(tree.won_assert),
+        immediate_olist: interface_bits(tree.immediate_olist),
+        inherited_olist: interface_bits(tree.inherited_olist),
+        inherited_olist_rpt: interface_bits(tree.inherited_olist_rpt),
     }
 }
 
-fn querier(row: Option<QuerierRow>) -> ToldQuerier
+fn c_querier(row: Option<QuerierRow>) -> CQuerier
     ensures { result ≡ querier_of row }
 {
     let Some(row) = row else {
-        return ToldQuerier {
+        return CQuerier {
             role: 0,
             end: NEVER,
             startup_left: 0,
@@ -308,7 +308,7 @@ fn querier(row: Option<QuerierRow>) -> ToldQuerier
         } => (1, next_query, u32::from(startup_left)),
         QuerierRole::NonQuerier { end } => (2, end, 0),
     };
-    ToldQuerier {
+    CQuerier {
         role,
         end,
         startup_left,
@@ -317,28 +317,28 @@ fn querier(row: Option<QuerierRow>) -> ToldQuerier
     }
 }
 
-fn link(link: Link) -> ToldLink
+fn c_link(link: Link) -> CLink
     ensures { result ≡ link_of link }
 {
-    ToldLink {
+    CLink {
         is_up: link.is_up,
         is_dr: link.is_dr,
         dr: link.dr.map_or(0, |dr| dr.bits),
-        querier: querier(link.querier),
+        querier: c_querier(link.querier),
     }
 }
 
-fn lan_delay(option: Option<LanDelay>) -> ToldLanDelay
+fn c_lan_delay(option: Option<LanDelay>) -> CLanDelay
     ensures { result ≡ lan_delay_of option }
 {
     match option {
-        Some(option) => ToldLanDelay {
+        Some(option) => CLanDelay {
             is_there: true,
             can_track: option.can_track,
             propagation_delay: u32::from(option.propagation_delay),
             override_interval: u32::from(option.override_interval),
         },
-        None => ToldLanDelay {
+        None => CLanDelay {
             is_there: false,
             can_track: false,
             propagation_delay: 0,
@@ -347,24 +347,24 @@ fn lan_delay(option: Option<LanDelay>) -> ToldLanDelay
     }
 }
 
-fn neighbour(neighbour: Neighbour) -> ToldNeighbour
+fn c_neighbour(neighbour: Neighbour) -> CNeighbour
     ensures { result ≡ neighbour_of neighbour }
 {
-    ToldNeighbour {
+    CNeighbour {
         end: neighbour.end.unwrap_or(NEVER),
-        priority: number(neighbour.priority),
-        generation: number(neighbour.generation),
-        lan_delay: lan_delay(neighbour.lan_delay),
+        priority: c_number(neighbour.priority),
+        generation: c_number(neighbour.generation),
+        lan_delay: c_lan_delay(neighbour.lan_delay),
     }
 }
 
 /// Writes out the macros of (*,G), if there is a router that works.
-pub(crate) fn tell_tree(told: Option<Tree>, out: &mut ToldTree) -> bool
-    ensures { ValueTold tree_of told result out.old out.new }
+pub(crate) fn write_tree(written: Option<Tree>, out: &mut CTree) -> bool
+    ensures { ValueWritten tree_of written result out.old out.new }
 {
-    match told {
-        Some(told) => {
-            *out = tree(&told);
+    match written {
+        Some(written) => {
+            *out = c_tree(&written);
             true
         }
         None => false,
@@ -372,12 +372,12 @@ pub(crate) fn tell_tree(told: Option<Tree>, out: &mut ToldTree) -> bool
 }
 
 /// Writes out the macros of (S,G) and of (S,G,rpt), if there is a router that works.
-pub(crate) fn tell_source_tree(told: Option<SourceTree>, out: &mut ToldSourceTree) -> bool
-    ensures { ValueTold source_tree_of told result out.old out.new }
+pub(crate) fn write_source_tree(written: Option<SourceTree>, out: &mut CSourceTree) -> bool
+    ensures { ValueWritten source_tree_of written result out.old out.new }
 {
-    match told {
-        Some(told) => {
-            *out = source_tree(&told);
+    match written {
+        Some(written) => {
+            *out = c_source_tree(&written);
             true
         }
         None => false,
@@ -385,12 +385,12 @@ pub(crate) fn tell_source_tree(told: Option<SourceTree>, out: &mut ToldSourceTre
 }
 
 /// Writes out an interface, if it is configured.
-pub(crate) fn tell_link(told: Option<Link>, out: &mut ToldLink) -> bool
-    ensures { ValueTold link_of told result out.old out.new }
+pub(crate) fn write_link(written: Option<Link>, out: &mut CLink) -> bool
+    ensures { ValueWritten link_of written result out.old out.new }
 {
-    match told {
-        Some(told) => {
-            *out = link(told);
+    match written {
+        Some(written) => {
+            *out = c_link(written);
             true
         }
         None => false,
@@ -398,12 +398,12 @@ pub(crate) fn tell_link(told: Option<Link>, out: &mut ToldLink) -> bool
 }
 
 /// Writes out a neighbour, if there is one.
-pub(crate) fn tell_neighbour(told: Option<Neighbour>, out: &mut ToldNeighbour) -> bool
-    ensures { ValueTold neighbour_of told result out.old out.new }
+pub(crate) fn write_neighbour(written: Option<Neighbour>, out: &mut CNeighbour) -> bool
+    ensures { ValueWritten neighbour_of written result out.old out.new }
 {
-    match told {
-        Some(told) => {
-            *out = neighbour(told);
+    match written {
+        Some(written) => {
+            *out = c_neighbour(written);
             true
         }
         None => false,

@@ -9,5 +9,6 @@ pub mod Leaving
 pub mod Placed
 pub mod Removing
 pub mod Renewed
+pub mod Settled
 pub mod Together
 pub mod Told

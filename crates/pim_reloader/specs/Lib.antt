@@ -1,3 +1,4 @@
 pub mod Asking
 pub mod Listing
 pub mod Reloads
+pub mod Same

@@ -9,6 +9,7 @@ mod places;
 mod queriers;
 mod remove;
 mod replace;
+mod same;
 mod whole;
 
 pub use places::reload_places;

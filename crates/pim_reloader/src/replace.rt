@@ -1,12 +1,13 @@
 //! A configuration replaced: the change, what follows of it, and the rows of the forwarding cache.
 ghost use Rattle.law_events.specs.Rest.{IsAtRest};
 ghost use Rattle.law_states.specs.Reload.{config_of};
-ghost use Rattle.law_states.specs.Reloading.{hellos_anew, replaced, under};
+ghost use Rattle.law_states.specs.Reloading.{hellos_anew, queriers_under, replaced, under};
 ghost use Rattle.pim_fanout.specs.Named.{keys_of};
 ghost use Rattle.pim_ip.specs.declared.fault.Fault.{Fault};
 ghost use Rattle.pim_mfc.specs.Laws.{ShowsRows};
 ghost use Rattle.pim_model.specs.Cache.{cached};
 ghost use Rattle.pim_reloader.specs.Listing.{AreListed, sources_in};
+ghost use Rattle.pim_reloader.specs.Same.{DifferInSettings};
 ghost use Rattle.pim_state.specs.Turns.{saying};
 ghost use Rattle.pim_state.specs.declared.touched.Touched.{Touched as TouchedValue};
 ghost use Rattle.pim_types.specs.Keys.{group_in, iface_in, key_cmp, source_in, source_key};
@@ -17,6 +18,7 @@ ghost use Rattle.std.specs.Prelude.{◌≡◌, ◌++◌, [], IfOk, IsOkUnless, O
 use crate::addresses::{forget_asserts, won_before};
 use crate::hellos::tell;
 use crate::queriers;
+use crate::same::differ_in_settings;
 use pim_event::Core;
 use pim_fanout::Gathered;
 use pim_settling::settle::settle;
@@ -24,7 +26,7 @@ use pim_state::{Meter, Touched, Turn, World};
 use pim_tables::PlacedRows;
 use pim_types::fact::SourceRow;
 use pim_types::{Emission, Fault, Series, SourceGroup};
-use std::alloc::AllocError;
+use std::alloc::{AllocError, Global};
 
 // Puts the world under the configuration of the next one, and says the Hellos that leave at once. All facts stay but what
 // queriers go by, and asserts that were won from addresses of before.
@@ -50,7 +52,23 @@ fn reconfigure(
     Ok(())
 }
 
-// Puts the world under the configuration of the next one, and does what follows. The result is what is sent.
+// Puts the world under the settings of the next one, which has no other interfaces, routes and RP ranges. All facts stay
+// but what queriers go by.
+fn put_settings(world: &mut World, alloc: Global, next: World) -> Result<(), AllocError>
+    requires below { list_all (λ e. nat_lt (iface_in e.0) (length next.configured.interfaces)) world.old.interfaces ≡ true }
+    requires same { DifferInSettings world.old next }
+    ensures { OnOk result (world.new ≡ record world.old {
+      settings = next.settings;
+      queriers = queriers_under world.old next.settings;
+    }) }
+{
+    world.reconfigure(next);
+    queriers::put_all_under(world, alloc)?;
+    Ok(())
+}
+
+// Puts the world under the configuration of the next one, and does what follows: nothing where only the settings differ.
+// The result is what is sent.
 #[tactic(auto, unfolding(law_states::specs::Reloading::replaced))]
 fn follow(
     world: &mut World,
@@ -65,6 +83,10 @@ fn follow(
     ensures sent { IfOk result (λ sent. sent.items ≡ (replaced world.old (config_of next) turn.old.draw).1) }
     ensures fault { IsOkUnless result Fault.Memory }
 {
+    if differ_in_settings(world, &next) {
+        put_settings(world, turn.alloc, next)?;
+        return Ok(Vec::new(turn.alloc));
+    }
     let gathered = Gathered::of(world, turn.alloc, &Touched::All, None, meter)?;
     reconfigure(world, turn, meter, next)?;
     // For the proof: asserts, sources and registers are under keys of their kind.

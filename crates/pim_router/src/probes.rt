@@ -1,7 +1,7 @@
 //! The meter of events, and meters for what is read outside of events.
 ghost use Rattle.std.specs.Prelude.{◌≡◌};
 
-use pim_meter::{Auditor, Meter, close, open};
+use pim_meter::{Auditor, Meter, close};
 
 /// The one meter of a router's events. The auditor stays with the router: no event is lent it, so that an event can
 /// neither make a meter nor set one back.
@@ -25,7 +25,7 @@ impl Probes {
     pub(crate) fn new() -> Probes
         ensures { result.meter ≡ 0 }
     {
-        let auditor = open();
+        let auditor = Auditor::new();
         let meter = auditor.meter();
         Probes { auditor, meter }
     }

@@ -396,7 +396,7 @@ impl Router {
     /// A data plane saw a packet of (S,G) on the interface, and reports no more of it than this. The router does what
     /// `step` does with a frame that brings such a packet with a TTL of 1: its state and its messages are those of any
     /// packet of (S,G) there, but no copy and no Register leaves.
-    pub fn seen(
+    pub fn packet_seen(
         &mut self,
         draw: u32,
         iface: IfaceId,

@@ -4,12 +4,12 @@ use Rattle.pim_ip.{specs.declared.refusal.Refusal.Refusal}
 use Rattle.pim_types.{specs.declared.{event.{Event.Event, EventKind.EventKind}, outcome.{Emission.Emission, Outcome.Outcome, Verdict.Verdict}}}
 use Rattle.pim_model.{specs.{State.State, Step.{outcome_of, ran, run, state_after, step}}}
 use Rattle.igmp_older.{specs.{Joined.{Both, joined, joined_step, known_after, known_if, noted_if, older_of, present_end, rows_of}, Modes.queries_heard, Presence.{Present, doubted, has_room, hosts_on, left, looked, noted_of, report_noted, setting_or_nobody}, Routers.{queried, query_packet}, Translation.translation, declared.{older.{Older.Older, OlderKind.OlderKind}, setting.OlderHosts.OlderHosts}}}
-use Rattle.pim_session.{specs.{Front.{Front, both, bytes_queried, emission_left, emissions_left, event_queried, front_after, given, kind_queried, version_on}, Laws.{Served, SessionIsJoined, WithoutFrontNothingChanges, outcome_left, session_run, session_step}}}
+use Rattle.pim_session.{specs.{Front.{Front, both, bytes_queried, emission_leaving, emissions_leaving, event_queried, front_after, given, kind_queried, version_on}, Laws.{Served, SessionIsJoined, WithoutFrontNothingChanges, outcome_left, session_run, session_step}}}
 
 -- ---- nothing stands before the router
 
 pub without_front : WithoutFrontNothingChanges
-unfolding session_run session_step given front_after emissions_left run state_after ran
+unfolding session_run session_step given front_after emissions_leaving run state_after ran
 without_front s [] = refl
 without_front s (e ∷ es) =
     ap (λ (p : List Outcome × Served). let q : List Outcome × Served = (outcome_of (step s e) ∷ p.0, p.1) in q)
@@ -89,21 +89,21 @@ events_same f p (x ∷ xs) e =
 
 -- ---- emissions leave by the versions alone
 
-emission_same : (f : Front) (p : Present) (x : Emission) → emission_left (with_present f p) x ≡ emission_left f x
-unfolding emission_left version_on
+emission_same : (f : Front) (p : Present) (x : Emission) → emission_leaving (with_present f p) x ≡ emission_leaving f x
+unfolding emission_leaving version_on
 emission_same f p (Emission.Link i bytes) = refl
 emission_same f p (Emission.Unicast destination bytes) = refl
 
 pub emissions_same : (f : Front) (p : Present) (xs : List Emission)
-    → map (emission_left (with_present f p)) xs ≡ map (emission_left f) xs
+    → map (emission_leaving (with_present f p)) xs ≡ map (emission_leaving f) xs
 emissions_same f p [] = refl
 emissions_same f p (x ∷ xs) =
-    ap (λ (y : Emission). y ∷ map (emission_left (with_present f p)) xs) (emission_same f p x)
-    ∙ ap (λ (ys : List Emission). emission_left f x ∷ ys) (emissions_same f p xs)
+    ap (λ (y : Emission). y ∷ map (emission_leaving (with_present f p)) xs) (emission_same f p x)
+    ∙ ap (λ (ys : List Emission). emission_leaving f x ∷ ys) (emissions_same f p xs)
 
 outcomes_same : (f : Front) (p : Present) (os : List Outcome)
     → map (outcome_left (Some (with_present f p))) os ≡ map (outcome_left (Some f)) os
-unfolding emissions_left
+unfolding emissions_leaving
 outcomes_same f p [] = refl
 outcomes_same f p (o ∷ os) =
     ap (λ (es : List Emission). let x : Outcome = record o { emissions = es } in x ∷ map (outcome_left (Some (with_present f p))) os)

@@ -10,7 +10,7 @@ use Rattle.pim_event.{specs.{Disturbing.{disturbed_with_room, event_disturbed, e
 use Rattle.pim_router.{specs.Standing.{Shown, Standing, beginning, nothing_shown, standing}}
 use Rattle.igmp_older.{specs.{Joined.{bytes_given, event_given, joined_step, kind_given, known_if, rows_of}, Presence.hosts_on, Routers.{OlderQueried, queried, query_packet}, Translation.{Translation, packet_given, translation}}}
 use Rattle.pim_guard.{specs.{Guard.{guarded, guarded_if, is_frame_stopped, is_kind_stopped}, Laws.IsOfData}, proofs.{Guarded.{guarded_copies_are_data, guarded_passes}, Passing.no_frame_of_another}}
-use Rattle.pim_session.{specs.{Front.{Front, both, bytes_queried, emissions_left, event_queried, front_after, given, hears_queries, kind_queried}, Laws.{CopiesAreData, GuardedSessionCopiesData, Served, StoppedEventChangesNothing, WithoutGuardSessionStays, session_run, session_step}, Untaken.IsStill}}
+use Rattle.pim_session.{specs.{Front.{Front, both, bytes_queried, emissions_leaving, event_queried, front_after, given, hears_queries, kind_queried}, Laws.{CopiesAreData, GuardedSessionCopiesData, Served, StoppedEventChangesNothing, WithoutGuardSessionStays, session_run, session_step}, Untaken.IsStill}}
 
 -- ---- the empty packet that the router is given in the place of what is stopped
 
@@ -159,7 +159,7 @@ guarded_session_copies_data x (e ∷ es) = (
 
 empty_changes_nothing : (x : Served) (draw : ℕ)
     → session_step x (empty draw) ≡ (record { answer = Err Refusal.Short; emissions = []; copies = 0 }, x)
-unfolding session_step given event_given kind_given kind_queried front_after joined_step known_if emissions_left step judged unicast_judged ipv4_reading
+unfolding session_step given event_given kind_given kind_queried front_after joined_step known_if emissions_leaving step judged unicast_judged ipv4_reading
 empty_changes_nothing x draw = go x.front x.state
   where
     go : (front : Option Front) (s : State)

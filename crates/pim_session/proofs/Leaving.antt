@@ -6,46 +6,44 @@ use Rattle.pim_model.{specs.{State.State, Step.step}}
 use Rattle.igmp_older_saved.{specs.{Reading.held_reading, Text.Held}, proofs.Spelled.held_text_is_read}
 use Rattle.law_states.{specs.History.{Given, IsLedTo}}
 use Rattle.pim_router.{specs.{Asked.{LeadsOn, SentIsAsked}, Standing.{Shown, Standing, beginning, begun, standing}}, proofs.Asked.{leads_now, step_asked, step_leads}}
-use Rattle.pim_session.{specs.{Leaving.{GoesOnFrom, LeftIsAsked}, Front.{Front, emissions_left}}}
+use Rattle.pim_session.{specs.{Behind.Stepped, Front.{Front, given}, Leaving.{GoesOnFrom, LeftIsAsked}, Session.ShownSession}}
 
-module _ {E : Type 0} (front : Option Front) (event : State → Event) (was now : Option Standing) where
-  pub left_by : (r : Result (Result Verdict Refusal) E) (left : List Emission)
-      → IfSome was (λ r'. IfOk r (λ answer. answer ≡ (step r'.state (event r'.state)).answer))
-      → IfSome was (λ r'. OnOk r (now ≡ Some (standing (step r'.state (event r'.state)))))
-      → IfSome was (λ r'. OnOk r (left ≡ emissions_left front (step r'.state (event r'.state)).emissions))
-      → IfSome was (λ r'. IfOk r (λ answer. IfSome now (λ after.
-      LeftIsAsked front r'.state (event r'.state) answer left after.copies)))
-  left_by = go was
-    where
-      go : (o : Option Standing) (r : Result (Result Verdict Refusal) E) (left : List Emission)
-          → IfSome o (λ r'. IfOk r (λ answer. answer ≡ (step r'.state (event r'.state)).answer))
-          → IfSome o (λ r'. OnOk r (now ≡ Some (standing (step r'.state (event r'.state)))))
-          → IfSome o (λ r'. OnOk r (left ≡ emissions_left front (step r'.state (event r'.state)).emissions))
-          → IfSome o (λ r'. IfOk r (λ answer. IfSome now (λ after.
-          LeftIsAsked front r'.state (event r'.state) answer left after.copies)))
-      go None r left is stands sent = tt
-      go (Some r') (Err f) left is stands sent = tt
-      go (Some r') (Ok answer) left is stands sent =
-          subst (λ (o : Option Standing). IfSome o (λ after. LeftIsAsked front r'.state (event r'.state) answer left after.copies)) (sym stands)
-          (record {
-            sent = (step r'.state (event r'.state)).emissions;
-            leaves = sent;
-            asked = step_asked r'.state (event r'.state) answer (step r'.state (event r'.state)).emissions is refl;
-          })
+-- a session that keeps what left of an event shows what its router shows
+pub kept_by : (e : Event) (answer : Result Verdict Refusal) (now kept : ShownSession) (before after : Shown) (leaving : List Emission)
+    (front known : Option Front)
+    → before ≡ now.router → front ≡ now.front → kept.router ≡ after → kept.sent ≡ leaving
+    → IfSome before.standing (λ r. Stepped front r.state e answer after leaving known)
+    → IfSome now.router.standing (λ r. Stepped now.front r.state e answer kept.router kept.sent known)
+kept_by e answer now kept before after leaving front known is_router is_front keeps sends told =
+    subst (λ (x : Shown). IfSome x.standing (λ r. Stepped now.front r.state e answer kept.router kept.sent known)) is_router
+    (subst (λ (f : Option Front). IfSome before.standing (λ r. Stepped f r.state e answer kept.router kept.sent known)) is_front
+    (subst (λ (x : Shown). IfSome before.standing (λ r. Stepped front r.state e answer x kept.sent known)) (sym keeps)
+    (subst (λ (xs : List Emission). IfSome before.standing (λ r. Stepped front r.state e answer after xs known)) (sym sends) told)))
 
-  pub led_by : (r : Result (Result Verdict Refusal) E)
-      → IfSome was (λ r'. OnOk r (now ≡ Some (standing (step r'.state (event r'.state)))))
-      → IfSome was (λ r'. OnOk r (IfSome now (λ after. LeadsOn r'.state (Given.Happening (event r'.state)) after.state)))
-  led_by = go was
-    where
-      go : (o : Option Standing) (r : Result (Result Verdict Refusal) E)
-          → IfSome o (λ r'. OnOk r (now ≡ Some (standing (step r'.state (event r'.state)))))
-          → IfSome o (λ r'. OnOk r (IfSome now (λ after. LeadsOn r'.state (Given.Happening (event r'.state)) after.state)))
-      go None r stands = tt
-      go (Some r') (Err f) stands = tt
-      go (Some r') (Ok answer) stands =
-          leads_now r'.state (Given.Happening (event r'.state)) now (standing (step r'.state (event r'.state))) stands
-          (step_leads r'.state (event r'.state))
+-- what leaves of an event is asked for
+pub asked_by : (front : Option Front) (e : Event) (was : Option Standing) (answer : Result Verdict Refusal) (shown : Shown)
+    (leaving : List Emission) (after : Option Front)
+    → IfSome was (λ r. Stepped front r.state e answer shown leaving after)
+    → IfSome was (λ r. IfSome shown.standing (λ a. LeftIsAsked front r.state (given front r.state e) answer leaving a.copies))
+asked_by front e None answer shown leaving after told = tt
+asked_by front e (Some r) answer shown leaving after told =
+    let behind : Event = given front r.state e in
+    subst (λ (o : Option Standing). IfSome o (λ a. LeftIsAsked front r.state behind answer leaving a.copies)) (sym told.state)
+    (record {
+      sent = (step r.state behind).emissions;
+      leaves = told.sent;
+      asked = step_asked r.state behind answer (step r.state behind).emissions told.is_answer refl;
+    })
+
+-- what led to the state before it goes on
+pub led_by : (front : Option Front) (e : Event) (was : Option Standing) (answer : Result Verdict Refusal) (shown : Shown)
+    (leaving : List Emission) (after : Option Front)
+    → IfSome was (λ r. Stepped front r.state e answer shown leaving after)
+    → IfSome was (λ r. IfSome shown.standing (λ a. LeadsOn r.state (Given.Happening (given front r.state e)) a.state))
+led_by front e None answer shown leaving after told = tt
+led_by front e (Some r) answer shown leaving after told =
+    let behind : Event = given front r.state e in
+    leads_now r.state (Given.Happening behind) shown.standing (standing (step r.state behind)) told.state (step_leads r.state behind)
 
 -- without a front
 pub sent_by : {E : Type 0} (e : Event) (was now : Option Standing) (r : Result (Result Verdict Refusal) E) (left : List Emission)

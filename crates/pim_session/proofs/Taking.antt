@@ -8,7 +8,7 @@ use Rattle.law_events.{specs.Named.event_named}
 use Rattle.pim_event.{specs.{Costs.IsCheap, Disturbing.event_disturbed, Listing.ListsSame, Staying.OffersStay}}
 use Rattle.pim_router.{specs.Standing.{Shown as RouterShown, Standing, standing}}
 use Rattle.igmp_older.{specs.{Joined.{bytes_given, event_given, joined_step, kind_given, known_after, known_if, noted_answered, noted_if, older_in, older_of, present_end, rows_of}, Presence.{Present, hosts_on, left, live_rows, looked}, Routers.{OlderQueried, Wrote, queried, query_packet}, Translation.{Gives, Translation, packet_given, translation}, declared.{front.Given.Given, older.Older.Older}}}
-use Rattle.pim_session.{specs.{Behind.{Gave, Stepped, Took, frame_event, is_done, is_plain, packet_of}, Front.{Front, both, bytes_queried, emission_left, emissions_left, event_queried, front_after, given, hears_queries, is_query_passed, is_sure, kind_queried}}, proofs.FrontLaws.emissions_same}
+use Rattle.pim_session.{specs.{Behind.{Gave, Stepped, Took, frame_event, is_done, is_plain, packet_of}, Front.{Front, both, bytes_queried, emission_leaving, emissions_leaving, event_queried, front_after, given, hears_queries, is_query_passed, is_sure, kind_queried}}, proofs.FrontLaws.emissions_same}
 
 -- ---- the router is asked
 
@@ -361,9 +361,9 @@ left_surely (Some r) f e answered shown sent known B took h = λ sure.
 
 pub all_stepped : (o : Option Standing) (f : Front) (e : Event) (answered : Result Verdict Refusal) (shown : RouterShown) (sent leaving : List Emission) (known : Front)
     → IfSome o (λ r. Took f r.state (event_queried f e) [] answered shown sent known)
-    → leaving ≡ map (emission_left known) sent
+    → leaving ≡ map (emission_leaving known) sent
     → IfSome o (λ r. Stepped (Some f) r.state e answered shown leaving (Some known))
-unfolding given front_after emissions_left
+unfolding given front_after emissions_leaving
 all_stepped None f e answered shown sent leaving known took is = tt
 all_stepped (Some r) f e answered shown sent leaving known took is =
     let gave = took.gave in
@@ -374,16 +374,16 @@ all_stepped (Some r) f e answered shown sent leaving known took is =
       changed = gave.changed;
       disturbed = gave.disturbed;
       stays = gave.stays;
-      sent = is ∙ ap (λ (g : Front). map (emission_left g) sent) took.knows
+      sent = is ∙ ap (λ (g : Front). map (emission_leaving g) sent) took.knows
           ∙ emissions_same f (joined_step (both f r.state) (event_queried f e)).1.present sent
-          ∙ ap (λ (xs : List Emission). map (emission_left f) xs) gave.sent;
+          ∙ ap (λ (xs : List Emission). map (emission_leaving f) xs) gave.sent;
       known = ap (λ (g : Front). Some g) took.knows;
     }
 
 pub all_alone : (o : Option Standing) (front : Option Front) (e : Event) (answered : Result Verdict Refusal) (shown : RouterShown) (sent : List Emission) (known : Option Front)
     → front ≡ None → known ≡ None → IfSome o (λ r. Gave r.state e [] answered shown sent)
     → IfSome o (λ r. Stepped front r.state e answered shown sent known)
-unfolding given front_after emissions_left
+unfolding given front_after emissions_leaving
 all_alone None front e answered shown sent known is none gave = tt
 all_alone (Some r) (Some f) e answered shown sent known is none gave = cc
 all_alone (Some r) None e answered shown sent known is none gave = record {

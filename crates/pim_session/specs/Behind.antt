@@ -7,7 +7,7 @@ use Rattle.law_events.{specs.Named.event_named}
 use Rattle.pim_event.{specs.{Costs.IsCheap, Disturbing.event_disturbed, Listing.ListsSame, Staying.OffersStay}}
 use Rattle.pim_router.{specs.Standing.{Shown as RouterShown, standing}}
 use Rattle.igmp_older.{specs.{Joined.{event_given, joined_step}, declared.front.Given.Given}}
-use Rattle.pim_session.{specs.Front.{Front, both, emissions_left, front_after, given}}
+use Rattle.pim_session.{specs.Front.{Front, both, emissions_leaving, front_after, given}}
 
 -- A router took an event: what it answered, what it shows, and what was sent, behind what was sent before.
 pub record Gave (s : State) (e : Event) (before : List Emission) (answered : Result Verdict Refusal)
@@ -60,5 +60,5 @@ pub record Stepped (front : Option Front) (s : State) (e : Event) (answered : Re
   pub changed : ListsSame left.changed (event_named s (given front s e))
   pub disturbed : left.disturbed ≡ event_disturbed s (given front s e)
   pub stays : OffersStay left.disturbed s (step s (given front s e)).state
-  pub sent : leaving ≡ emissions_left front (step s (given front s e)).emissions
+  pub sent : leaving ≡ emissions_leaving front (step s (given front s e)).emissions
   pub known : after ≡ front_after front s e

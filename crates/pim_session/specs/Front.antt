@@ -65,19 +65,19 @@ front_after (Some f) s e = Some (record f { present = (joined_step (both f s) (e
 -- ---- emissions as they leave
 
 -- a packet as it leaves on an interface that queries in a version
-abbrev pub bytes_left : ResponseTimes → QueryVersion → List ℕ → List ℕ
-bytes_left times QueryVersion.Two bytes = unwrap_or (cut times bytes) bytes
-bytes_left times QueryVersion.Three bytes = bytes
+abbrev pub bytes_leaving : ResponseTimes → QueryVersion → List ℕ → List ℕ
+bytes_leaving times QueryVersion.Two bytes = unwrap_or (cut times bytes) bytes
+bytes_leaving times QueryVersion.Three bytes = bytes
 
 -- a query on an interface of version 2 is cut
-unfoldable pub emission_left : Front → Emission → Emission
-emission_left f (Emission.Link i bytes) = Emission.Link i (bytes_left f.times (version_on f i.number) bytes)
-emission_left f (Emission.Unicast destination bytes) = Emission.Unicast destination bytes
+unfoldable pub emission_leaving : Front → Emission → Emission
+emission_leaving f (Emission.Link i bytes) = Emission.Link i (bytes_leaving f.times (version_on f i.number) bytes)
+emission_leaving f (Emission.Unicast destination bytes) = Emission.Unicast destination bytes
 
 -- packets as they leave behind a front, if there is one
-unfoldable pub emissions_left : Option Front → List Emission → List Emission
-emissions_left None sent = sent
-emissions_left (Some f) sent = map (emission_left f) sent
+unfoldable pub emissions_leaving : Option Front → List Emission → List Emission
+emissions_leaving None sent = sent
+emissions_leaving (Some f) sent = map (emission_leaving f) sent
 
 -- ---- what takes no memory
 

@@ -6,7 +6,7 @@ use Rattle.pim_model.{specs.{State.State, Step.{Answered, outcome_of, run, state
 use Rattle.law_streams.{specs.Copies.copies_at}
 use Rattle.pim_guard.{specs.{Guard.{guarded, is_kind_stopped}, Laws.IsOfData}}
 use Rattle.igmp_older.{specs.Joined.{joined}}
-use Rattle.pim_session.{specs.Front.{Front, both, emissions_left, event_queried, front_after, given}}
+use Rattle.pim_session.{specs.Front.{Front, both, emissions_leaving, event_queried, front_after, given}}
 
 -- what stands before the router, and the router's state
 pub record Served : Type 0 where
@@ -14,7 +14,7 @@ pub record Served : Type 0 where
   pub state : State
 
 abbrev pub outcome_left : Option Front → Outcome → Outcome
-outcome_left front o = record o { emissions = emissions_left front o.emissions }
+outcome_left front o = record o { emissions = emissions_leaving front o.emissions }
 
 -- one event at a session, by its front and its router
 unfoldable pub session_step : Served → Event → Outcome × Served

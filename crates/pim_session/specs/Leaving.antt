@@ -6,14 +6,14 @@ use Rattle.pim_model.{specs.State.State}
 use Rattle.igmp_older_saved.{specs.Text.{Held, held_text, FitsHeld}}
 use Rattle.law_states.{specs.History.{Given, IsLedTo}}
 use Rattle.pim_router.{specs.Asked.SentIsAsked}
-use Rattle.pim_session.{specs.Front.{Front, emissions_left}}
+use Rattle.pim_session.{specs.Front.{Front, emissions_leaving}}
 
 -- What left is what the router sent, with queries as the interfaces' versions have them, and each copy among it has its
 -- cause in what led to the state.
 pub record LeftIsAsked (front : Option Front) (s : State) (e : Event) (answer : Result Verdict Refusal) (left : List Emission) (copies : ℕ)
     : Type 0 where
   pub sent : List Emission
-  pub leaves : left ≡ emissions_left front sent
+  pub leaves : left ≡ emissions_leaving front sent
   pub asked : SentIsAsked s e answer sent copies
 
 -- Where the bytes are those of a saved state, with or without rows of older hosts, whatever led to that state led to this

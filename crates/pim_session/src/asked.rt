@@ -37,8 +37,8 @@ impl<'a> Querier for Asked<'a> {
 
     ghost group_records = { λ q. option_map_or (λ r. r.state.group_records) q.standing [] };
 
-    fn present(&self) -> u64 {
-        self.router.present()
+    fn present_moment(&self) -> u64 {
+        self.router.present_moment()
     }
 
     fn has_group_record(&self, iface: IfaceId, group: Addr) -> bool {

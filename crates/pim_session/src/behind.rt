@@ -1,18 +1,18 @@
 //! A router with what stands before it takes an event.
-ghost use Rattle.std.specs.Prelude.{◌≡◌, ◌++◌, IfOk, IfSome, IsOk, IsOkUnless, IsSome, IsTrue, None, OnErr, Some, true};
+ghost use Rattle.std.specs.Prelude.{◌≡◌, IfOk, IfSome, IsOk, IsOkUnless, IsTrue, None, OnErr, Some, true};
 ghost use Rattle.pim_ip.specs.declared.fault.Fault.{Fault};
 ghost use Rattle.pim_model.specs.Step.{step};
 ghost use Rattle.pim_model.specs.Sure.{needs_no_memory};
 ghost use Rattle.pim_types.specs.declared.event.EventKind.{EventKind};
-ghost use Rattle.igmp_older.specs.Joined.{event_given, rows_of};
+ghost use Rattle.igmp_older.specs.Joined.{rows_of};
 ghost use Rattle.igmp_older.specs.Presence.{hosts_on};
 ghost use Rattle.igmp_older.specs.Translation.{translation};
 ghost use Rattle.pim_session.specs.Behind.{Gave, Stepped, Took, frame_event, is_done, is_plain, packet_of};
-ghost use Rattle.pim_session.specs.Front.{both, emissions_left, event_queried, front_after, front_of, given, is_sure, hosts_set, interface_test, older_rows, times_in, version_set};
+ghost use Rattle.pim_session.specs.Front.{both, emissions_leaving, event_queried, front_of, given, interface_test, is_sure, older_rows, times_in};
 
 use crate::asked::Asked;
 use crate::front::Front;
-use igmp_older::{Given, OlderHosts, OlderRow, QueryVersion, ResponseTimes, give_query};
+use igmp_older::{Given, OlderRow, ResponseTimes, give_query};
 use pim_intake::LentEvent;
 use pim_intake::lent::LentKind;
 use pim_router::Router;
@@ -214,7 +214,7 @@ fn step_behind(
 {
     let mut sent = Vec::new(alloc);
     let answer = take(alloc, router, front, event, &mut sent)?;
-    let left = front.emissions_left(alloc, sent)?;
+    let left = front.emissions_leaving(alloc, sent)?;
     Ok((answer, left))
 }
 
@@ -250,8 +250,12 @@ pub(crate) fn times_in(router: &Router) -> ResponseTimes
     }
 }
 
-// What stands before a router: what stood there, or what is made. Only the latter may fail for want of memory.
-fn front_of(alloc: Global, router: &Router, front: Option<Front>) -> Result<Front, AllocError>
+/// What stands before a router: what stood there, or what is made. Only the latter may fail for want of memory.
+pub(crate) fn front_of(
+    alloc: Global,
+    router: &Router,
+    front: Option<Front>,
+) -> Result<Front, AllocError>
     ensures made { IfSome router.now.standing (λ r. IfOk result (λ made. made ≡ front_of r.state front)) }
     ensures none { OnErr result (front ≡ None) }
 {
@@ -275,48 +279,6 @@ pub(crate) fn test_interface(router: &Router, iface: IfaceId) -> Result<(), Refu
     } else {
         Err(Refusal::NoInterface)
     }
-}
-
-/// What stands before a router after it is set which hosts an interface hears. An `Err` is want of memory for what stands
-/// there first.
-#[tactic(auto, unfolding(crate::specs::Front::hosts_set))]
-pub(crate) fn set_hosts(
-    alloc: Global,
-    router: &Router,
-    front: Option<Front>,
-    iface: IfaceId,
-    hosts: OlderHosts,
-) -> Result<Option<Front>, AllocError>
-    ensures set { IfSome router.now.standing (λ r. IfOk result (λ set. set ≡ hosts_set r.state front iface.number hosts)) }
-    ensures none { OnErr result (front ≡ None) }
-{
-    if iface.number >= router.interface_count() {
-        return Ok(front);
-    }
-    let mut made = front_of(alloc, router, front)?;
-    made.set_hosts(iface, hosts);
-    Ok(Some(made))
-}
-
-/// What stands before a router after the version is set in which an interface queries. An `Err` is want of memory for what
-/// stands there first.
-#[tactic(auto, unfolding(crate::specs::Front::version_set))]
-pub(crate) fn set_version(
-    alloc: Global,
-    router: &Router,
-    front: Option<Front>,
-    iface: IfaceId,
-    version: QueryVersion,
-) -> Result<Option<Front>, AllocError>
-    ensures set { IfSome router.now.standing (λ r. IfOk result (λ set. set ≡ version_set r.state front iface.number version)) }
-    ensures none { OnErr result (front ≡ None) }
-{
-    if iface.number >= router.interface_count() {
-        return Ok(front);
-    }
-    let mut made = front_of(alloc, router, front)?;
-    made.set_version(iface, version);
-    Ok(Some(made))
 }
 
 /// The groups in an older mode.

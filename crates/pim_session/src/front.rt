@@ -6,7 +6,7 @@ ghost use Rattle.igmp_older_saved.specs.Hosts.{resumed_rows, saved_hosts};
 ghost use Rattle.igmp_older.specs.Translation.{translation, Gives};
 ghost use Rattle.law_settled.specs.Ready.{Rises};
 ghost use Rattle.pim_model.specs.Sure.{needs_no_memory};
-ghost use Rattle.pim_session.specs.Front.{bytes_left, emission_left, hears_queries, version_on};
+ghost use Rattle.pim_session.specs.Front.{bytes_leaving, emission_leaving, hears_queries, version_on};
 
 mod placed;
 mod resized;
@@ -228,13 +228,13 @@ impl Front {
     }
 
     // Bytes that leave on an interface: a query is cut where the interface queries in version 2.
-    fn bytes_left(
+    fn bytes_leaving(
         &self,
         alloc: Global,
         iface: IfaceId,
         bytes: Series<u8>,
     ) -> Result<Series<u8>, AllocError>
-        ensures { IfOk result (λ left. left ≡ bytes_left self.now.times (version_on self.now iface.number) bytes) }
+        ensures { IfOk result (λ left. left ≡ bytes_leaving self.now.times (version_on self.now iface.number) bytes) }
     {
         match self.version(iface) {
             QueryVersion::Three => return Ok(bytes),
@@ -248,14 +248,14 @@ impl Front {
     }
 
     // An emission as it leaves behind the front: a query to older hosts is cut.
-    #[tactic(auto, unfolding(crate::specs::Front::emission_left))]
-    fn emission_left(&self, alloc: Global, emission: Emission) -> Result<Emission, AllocError>
-        ensures { IfOk result (λ left. left ≡ emission_left self.now emission) }
+    #[tactic(auto, unfolding(crate::specs::Front::emission_leaving))]
+    fn emission_leaving(&self, alloc: Global, emission: Emission) -> Result<Emission, AllocError>
+        ensures { IfOk result (λ left. left ≡ emission_leaving self.now emission) }
     {
         match emission {
             Emission::Link { iface, bytes } => Ok(Emission::Link {
                 iface,
-                bytes: self.bytes_left(alloc, iface, bytes)?,
+                bytes: self.bytes_leaving(alloc, iface, bytes)?,
             }),
             Emission::Unicast { destination, bytes } => {
                 Ok(Emission::Unicast { destination, bytes })
@@ -264,17 +264,17 @@ impl Front {
     }
 
     /// Emissions as they leave. No memory is taken where nothing leaves.
-    pub(crate) fn emissions_left(
+    pub(crate) fn emissions_leaving(
         &self,
         alloc: Global,
         sent: Vec<Emission>,
     ) -> Result<Vec<Emission>, AllocError>
-        ensures left { IfOk result (λ left. left.items ≡ map (emission_left self.now) sent.items) }
+        ensures left { IfOk result (λ left. left.items ≡ map (emission_leaving self.now) sent.items) }
         ensures sure { sent.items ≡ [] → IsOk result }
     {
         let mut left = Vec::new(alloc);
         for emission in sent {
-            let emission = self.emission_left(alloc, emission)?;
+            let emission = self.emission_leaving(alloc, emission)?;
             left.push(emission)?;
         }
         Ok(left)

@@ -1,26 +1,25 @@
-//! A router's bytes with the rows of older hosts that stand before it, and both made of them.
+//! The rows of older hosts that stand before a router as they are saved, and both made of the bytes.
 ghost use Rattle.igmp_older_saved.specs.Reading.{held_in, held_read_test, held_reading, held_restore_test};
-ghost use Rattle.igmp_older_saved.specs.Text.{Held, held_text, FitsHeld};
+ghost use Rattle.igmp_older_saved.specs.Text.{Held};
 ghost use Rattle.law_settled.specs.Ready.{Rises};
 ghost use Rattle.pim_ip.specs.declared.fault.Fault.{Fault};
 ghost use Rattle.pim_model.specs.State.{State};
 ghost use Rattle.pim_router.specs.Standing.{begun};
 ghost use Rattle.pim_saved.specs.Reading.{reading};
-ghost use Rattle.pim_session.specs.Saved.{front_resumed, held_of, hosts_of};
-ghost use Rattle.pim_worlds.specs.Resuming.{IsResumable};
-ghost use Rattle.std.specs.Prelude.{◌≡◌, ◌++◌, Err, IfErr, IfOk, IfSome, IsOkUnless, Ok, OnErr, OnOk};
+ghost use Rattle.pim_session.specs.Saved.{front_resumed, hosts_of};
+ghost use Rattle.std.specs.Prelude.{◌≡◌, Err, IfErr, IfOk, IfSome, Ok, OnOk};
 
 use crate::asked::Asked;
 use crate::behind::times_in;
 use crate::front::Front;
-use igmp_older_saved::{HeldRefusal, HostRow, are_held, open_saved, write_saved};
+use igmp_older_saved::{HeldRefusal, HostRow, are_held, open_saved};
 use pim_router::Router;
 use pim_saver::ReadFault;
 use pim_types::{Fault, Key};
 use std::alloc::{AllocError, Global};
 
-// The rows of older hosts that are saved.
-fn hosts_of(
+/// The rows of older hosts that are saved.
+pub(crate) fn hosts_of(
     alloc: Global,
     router: &Router,
     front: &Option<Front>,
@@ -35,24 +34,6 @@ fn hosts_of(
         }
         None => Ok(Vec::new(alloc)),
     }
-}
-
-/// Adds the bytes of the router's state after those that are there, behind the rows of older hosts. After a fault the
-/// bytes are as they were.
-pub(crate) fn save(router: &Router, front: &Option<Front>, out: &mut Vec<u8>) -> Result<(), Fault>
-    ensures saved { IfSome router.now.standing (λ r. OnOk result
-        (out.new.items ≡ out.old.items ++ held_text (held_of r.state front.now))) }
-    ensures fitting { IfSome router.now.standing (λ r. OnOk result (FitsHeld (held_of r.state front.now))) }
-    ensures resumable { IfSome router.now.standing (λ r. IsResumable r.state) }
-    ensures silent { OnErr result (out.new.items ≡ out.old.items) }
-    ensures fault { IfSome router.now.standing (λ r. IsOkUnless result Fault.Memory) }
-{
-    let alloc = *out.allocator();
-    let mut own = Vec::new(alloc);
-    router.save(&mut own)?;
-    let hosts = hosts_of(alloc, router, front)?;
-    write_saved(&hosts, &own, out)?;
-    Ok(())
 }
 
 // What stands before a router that was saved with these rows of older hosts.

@@ -19,21 +19,21 @@ ghost use Rattle.pim_model.specs.Cache.{cached};
 ghost use Rattle.pim_model.specs.Judging.{last_moment};
 ghost use Rattle.pim_model.specs.Limits.{config_test};
 ghost use Rattle.pim_model.specs.Sets.{is_kept_alive};
-ghost use Rattle.pim_model.specs.State.{State, opening};
+ghost use Rattle.pim_model.specs.State.{opening};
 ghost use Rattle.pim_model.specs.Step.{step};
 ghost use Rattle.pim_model.specs.Timers.{next_moment};
 ghost use Rattle.pim_model.specs.Unicast.{rpf_interface_rp};
 ghost use Rattle.pim_router.specs.Asked.{LeadsOn, SentIsAsked};
 ghost use Rattle.pim_router.specs.Standing.{begun, nothing_shown, standing, with_state};
 ghost use Rattle.pim_rows.specs.Printed.{rows};
-ghost use Rattle.pim_session.specs.Front.{emissions_left, front_after, given, hosts_set, interface_test, is_sure, older_rows, version_set};
+ghost use Rattle.pim_session.specs.Front.{emissions_leaving, front_after, given, hosts_set, interface_test, is_sure, older_rows, version_set};
 ghost use Rattle.pim_session.specs.Leaving.{LeftIsAsked};
 ghost use Rattle.pim_session.specs.Untaken.{IsAnswered, IsMemoryAlone, IsMemoryUnless, Stopped, has_untaken, is_guarded};
 ghost use Rattle.pim_session.specs.declared.stop.Stop.{Stop as StopValue};
 ghost use Rattle.pim_types.specs.Keys.{key_cmp};
 ghost use Rattle.std.specs.List.Sorted.{IsStrictlySortedBy};
 ghost use Rattle.std.specs.Option.{option_map_or};
-ghost use Rattle.std.specs.Prelude.{◌≡◌, ◌++◌, ◌↔◌, [], Err, IfErr, IfOk, IfSome, IsOk, IsOkUnless, IsSome, IsTrue, None, Ok, OnErr, OnOk, Some, drop, min, option_and_then, true};
+ghost use Rattle.std.specs.Prelude.{◌≡◌, ◌↔◌, [], Err, IfErr, IfOk, IfSome, IsOkUnless, IsSome, IsTrue, None, Ok, OnErr, OnOk, Some, drop, min, option_and_then, true};
 
 mod guarded;
 mod placed;
@@ -156,7 +156,7 @@ impl Session {
         ensures state { IfSome self.old.router.standing (λ r. OnOk result
             (self.new.router.standing ≡ Some (standing (step r.state (given self.old.front r.state event.now))))) }
         ensures sent { IfSome self.old.router.standing (λ r. OnOk result (self.new.sent
-            ≡ emissions_left self.old.front (step r.state (given self.old.front r.state event.now)).emissions)) }
+            ≡ emissions_leaving self.old.front (step r.state (given self.old.front r.state event.now)).emissions)) }
         ensures asked { IfSome self.old.router.standing (λ r. IfOk result (λ answer. IfSome self.new.router.standing (λ after.
             LeftIsAsked self.old.front r.state (given self.old.front r.state event.now) answer self.new.sent after.copies))) }
         ensures led { IfSome self.old.router.standing (λ r. OnOk result (IfSome self.new.router.standing (λ after.
@@ -195,45 +195,6 @@ impl Session {
         if self.stops(event) {
             return Err(self.stay(alloc, event.draw()));
         }
-        match self.take(alloc, event) {
-            Ok(answer) => Ok(answer),
-            Err(fault) => Err(Stop::Fault(fault)),
-        }
-    }
-
-    // Takes one event, and keeps its packets.
-    fn take(
-        &mut self,
-        alloc: Global,
-        event: &LentEvent<'_>,
-    ) -> Result<Result<Verdict, Refusal>, Fault>
-        ensures answer { IfSome self.old.router.standing (λ r. IfOk result (λ answer. answer
-            ≡ (step r.state (given self.old.front r.state event.now)).answer)) }
-        ensures state { IfSome self.old.router.standing (λ r. OnOk result
-            (self.new.router.standing ≡ Some (standing (step r.state (given self.old.front r.state event.now))))) }
-        ensures sent { IfSome self.old.router.standing (λ r. OnOk result (self.new.sent
-            ≡ emissions_left self.old.front (step r.state (given self.old.front r.state event.now)).emissions)) }
-        ensures front { IfSome self.old.router.standing (λ r. OnOk result
-            (self.new.front ≡ front_after self.old.front r.state event.now)) }
-        ensures cheap { IfSome self.old.router.standing (λ r. OnOk result
-            (IsCheap r.state (given self.old.front r.state event.now) self.new.router.probes self.new.router.touched)) }
-        ensures changed { IfSome self.old.router.standing (λ r. OnOk result
-            (ListsSame self.new.router.changed (event_named r.state (given self.old.front r.state event.now)))) }
-        ensures disturbed { IfSome self.old.router.standing (λ r. OnOk result
-            (self.new.router.disturbed ≡ event_disturbed r.state (given self.old.front r.state event.now))) }
-        ensures stays { IfSome self.old.router.standing (λ r. OnOk result
-            (OffersStay self.new.router.disturbed r.state (step r.state (given self.old.front r.state event.now)).state)) }
-        ensures failing { OnErr result ((self.new.router ≡ nothing_shown) × (self.new.front ≡ None)) }
-        ensures guard { self.new.guard ≡ self.old.guard }
-        ensures silent { OnErr result (self.new.sent ≡ self.old.sent) }
-        ensures failed { (result ≡ Err Fault.Failed) ↔ (self.old.router.standing ≡ None) }
-        ensures fault { IfSome self.old.router.standing (λ r. IsOkUnless result Fault.Memory) }
-        ensures sure { IfSome self.old.router.standing (λ r. IsTrue (is_sure self.old.front r.state event.now) → IsOk result) }
-        ensures rows { (self.new.rows ≡ self.old.rows) × (self.new.older_rows ≡ self.old.older_rows) }
-    {
-        if self.is_lost {
-            return Err(Fault::Failed);
-        }
         match behind::step(alloc, self.router.as_mut(), &mut self.front, event) {
             Ok((answer, sent)) => {
                 self.keep_sent(sent);
@@ -241,16 +202,16 @@ impl Session {
             }
             Err(fault) => {
                 self.is_lost = true;
-                Err(fault)
+                Err(Stop::Fault(fault))
             }
         }
     }
 
-    /// A data plane saw a packet of (S,G) on the interface, as `Router::seen` says. What leaves is kept. While
+    /// A data plane saw a packet of (S,G) on the interface, as `Router::packet_seen` says. What leaves is kept. While
     /// packets of the event before are untaken the answer is `Untaken`, and nothing changes. After a fault the session
     /// answers `Failed` from then on.
     #[tactic(auto, using(crate::proofs::Leaving::sent_by))]
-    pub fn seen(
+    pub fn packet_seen(
         &mut self,
         alloc: Global,
         draw: u32,
@@ -293,7 +254,10 @@ impl Session {
             return Err(Stop::Untaken);
         }
         let mut leaving = Vec::new(alloc);
-        match self.router.seen(draw, iface, source, group, &mut leaving) {
+        match self
+            .router
+            .packet_seen(draw, iface, source, group, &mut leaving)
+        {
             Ok(answer) => {
                 self.keep_sent(leaving);
                 Ok(answer)
@@ -371,6 +335,7 @@ impl Session {
     /// Sets which hosts of older versions an interface hears from then on, and forgets what it heard before. An interface
     /// on which nobody was heard keeps of what was restored what it hears from then on. The refusal is `NoInterface`. A
     /// fault changes nothing.
+    #[tactic(auto, unfolding(crate::specs::Front::hosts_set))]
     pub fn set_older_hosts(
         &mut self,
         alloc: Global,
@@ -390,14 +355,19 @@ impl Session {
         if self.is_lost {
             return Err(Fault::Failed);
         }
-        let answer = behind::test_interface(&self.router, iface);
+        if let Err(refusal) = behind::test_interface(&self.router, iface) {
+            return Ok(Err(refusal));
+        }
         let before = mem::replace(&mut self.front, None);
-        self.front = behind::set_hosts(alloc, &self.router, before, iface, hosts)?;
-        Ok(answer)
+        let mut front = behind::front_of(alloc, &self.router, before)?;
+        front.set_hosts(iface, hosts);
+        self.front = Some(front);
+        Ok(Ok(()))
     }
 
     /// Sets the version in which an interface queries: in version 2 its queries leave cut behind their group. The refusal
     /// is `NoInterface`. A fault changes nothing.
+    #[tactic(auto, unfolding(crate::specs::Front::version_set))]
     pub fn set_query_version(
         &mut self,
         alloc: Global,
@@ -417,10 +387,14 @@ impl Session {
         if self.is_lost {
             return Err(Fault::Failed);
         }
-        let answer = behind::test_interface(&self.router, iface);
+        if let Err(refusal) = behind::test_interface(&self.router, iface) {
+            return Ok(Err(refusal));
+        }
         let before = mem::replace(&mut self.front, None);
-        self.front = behind::set_version(alloc, &self.router, before, iface, version)?;
-        Ok(answer)
+        let mut front = behind::front_of(alloc, &self.router, before)?;
+        front.set_version(iface, version);
+        self.front = Some(front);
+        Ok(Ok(()))
     }
 
     /// Reads the groups that are in an older mode, and keeps them in place of those kept before. After a fault the kept

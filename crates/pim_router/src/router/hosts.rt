@@ -55,7 +55,7 @@ impl Router {
     }
 
     /// The present moment, in ms; 0 where the router has failed. No memory is taken.
-    pub fn present(&self) -> u64
+    pub fn present_moment(&self) -> u64
         ensures { result ≡ option_map_or (λ r. r.state.present) self.now.standing 0 }
     {
         if self.failed {

@@ -6,7 +6,7 @@ ghost use Rattle.pim_ip.specs.declared.fault.Fault.{Fault};
 ghost use Rattle.pim_reloader.specs.Listing.{ListsFacts};
 ghost use Rattle.pim_router.specs.Asked.{LeadsOn, places_test};
 ghost use Rattle.pim_router.specs.Standing.{beginning};
-ghost use Rattle.pim_session.specs.Front.{emissions_left};
+ghost use Rattle.pim_session.specs.Front.{emissions_leaving};
 ghost use Rattle.pim_session.specs.Placed.{front_reloaded_by};
 ghost use Rattle.pim_session.specs.Untaken.{IsMemoryAlone, Stopped, has_untaken};
 ghost use Rattle.pim_session.specs.declared.stop.Stop.{Stop as StopValue};
@@ -43,7 +43,7 @@ impl Session {
         ensures state { IfSome self.old.router.standing (λ r. IfOk result (λ answer. OnOk answer
             (self.new.router.standing ≡ Some (beginning (reload_by r.state places.now config.now draw).0)))) }
         ensures sent { IfSome self.old.router.standing (λ r. IfOk result (λ answer. OnOk answer
-            (self.new.sent ≡ emissions_left self.old.front (reload_by r.state places.now config.now draw).1))) }
+            (self.new.sent ≡ emissions_leaving self.old.front (reload_by r.state places.now config.now draw).1))) }
         ensures led { IfSome self.old.router.standing (λ r. IfOk result (λ answer. OnOk answer (IfSome self.new.router.standing (λ after.
             LeadsOn r.state (Given.Placed places.now config.now draw) after.state)))) }
         ensures front { IfSome self.old.router.standing (λ r. IfOk result (λ answer. OnOk answer
@@ -94,7 +94,7 @@ impl Session {
 }
 
 // What leaves of what the router sent, and what stands before it by a map of places, if anything does.
-#[tactic(auto, unfolding(crate::specs::Front::emissions_left, crate::specs::Placed::front_reloaded_by))]
+#[tactic(auto, unfolding(crate::specs::Front::emissions_leaving, crate::specs::Placed::front_reloaded_by))]
 fn follow(
     alloc: Global,
     router: &Router,
@@ -102,14 +102,14 @@ fn follow(
     places: &[Option<u32>],
     sent: Vec<Emission>,
 ) -> Result<(Vec<Emission>, Option<Front>), AllocError>
-    ensures left { IfOk result (λ told. told.0.items ≡ emissions_left front sent.items) }
+    ensures left { IfOk result (λ told. told.0.items ≡ emissions_leaving front sent.items) }
     ensures front { IfSome router.now.standing (λ r. IfOk result (λ told.
         told.1 ≡ front_reloaded_by places.now r.state front)) }
 {
     let Some(mut standing) = front else {
         return Ok((sent, None));
     };
-    let left = standing.emissions_left(alloc, sent)?;
+    let left = standing.emissions_leaving(alloc, sent)?;
     standing.place(
         router.limit(),
         router.interface_count(),
@@ -135,7 +135,7 @@ fn reload(
     ensures state { IfSome router.old.standing (λ r. IfOk result (λ answer. OnOk answer
         (router.new.standing ≡ Some (beginning (reload_by r.state places.now config.now draw).0)))) }
     ensures sent { IfSome router.old.standing (λ r. IfOk result (λ answer. IfOk answer (λ sent.
-        sent.items ≡ emissions_left front.old (reload_by r.state places.now config.now draw).1))) }
+        sent.items ≡ emissions_leaving front.old (reload_by r.state places.now config.now draw).1))) }
     ensures led { IfSome router.old.standing (λ r. IfOk result (λ answer. OnOk answer (IfSome router.new.standing (λ after.
         LeadsOn r.state (Given.Placed places.now config.now draw) after.state)))) }
     ensures front { IfSome router.old.standing (λ r. IfOk result (λ answer. OnOk answer

@@ -7,7 +7,7 @@ ghost use Rattle.pim_model.specs.Limits.{config_test};
 ghost use Rattle.pim_reloader.specs.Listing.{ListsFacts};
 ghost use Rattle.pim_router.specs.Asked.{LeadsOn};
 ghost use Rattle.pim_router.specs.Standing.{beginning};
-ghost use Rattle.pim_session.specs.Front.{emissions_left};
+ghost use Rattle.pim_session.specs.Front.{emissions_leaving};
 ghost use Rattle.pim_session.specs.Reloaded.{front_reloaded};
 ghost use Rattle.pim_session.specs.Untaken.{IsMemoryAlone, Stopped, has_untaken};
 ghost use Rattle.pim_session.specs.declared.stop.Stop.{Stop as StopValue};
@@ -41,7 +41,7 @@ impl Session {
         ensures state { IfSome self.old.router.standing (λ r. IfOk result (λ answer. OnOk answer
             (self.new.router.standing ≡ Some (beginning (reload r.state config.now draw).0)))) }
         ensures sent { IfSome self.old.router.standing (λ r. IfOk result (λ answer. OnOk answer
-            (self.new.sent ≡ emissions_left self.old.front (reload r.state config.now draw).1))) }
+            (self.new.sent ≡ emissions_leaving self.old.front (reload r.state config.now draw).1))) }
         ensures led { IfSome self.old.router.standing (λ r. IfOk result (λ answer. OnOk answer (IfSome self.new.router.standing (λ after.
             LeadsOn r.state (Given.Reload config.now draw) after.state)))) }
         ensures front { IfSome self.old.router.standing (λ r. IfOk result (λ answer. OnOk answer
@@ -85,20 +85,20 @@ impl Session {
 }
 
 // What leaves of what the router sent, and what stands before it under another configuration, if anything does.
-#[tactic(auto, unfolding(crate::specs::Front::emissions_left, crate::specs::Reloaded::front_reloaded))]
+#[tactic(auto, unfolding(crate::specs::Front::emissions_leaving, crate::specs::Reloaded::front_reloaded))]
 fn follow(
     alloc: Global,
     router: &Router,
     front: Option<Front>,
     sent: Vec<Emission>,
 ) -> Result<(Vec<Emission>, Option<Front>), AllocError>
-    ensures left { IfOk result (λ told. told.0.items ≡ emissions_left front sent.items) }
+    ensures left { IfOk result (λ told. told.0.items ≡ emissions_leaving front sent.items) }
     ensures front { IfSome router.now.standing (λ r. IfOk result (λ told. told.1 ≡ front_reloaded r.state front)) }
 {
     let Some(mut standing) = front else {
         return Ok((sent, None));
     };
-    let left = standing.emissions_left(alloc, sent)?;
+    let left = standing.emissions_leaving(alloc, sent)?;
     standing.resize(router.limit(), router.interface_count(), times_in(router))?;
     Ok((left, Some(standing)))
 }
@@ -116,7 +116,7 @@ fn reload(
     ensures state { IfSome router.old.standing (λ r. IfOk result (λ answer. OnOk answer
         (router.new.standing ≡ Some (beginning (reload r.state config.now draw).0)))) }
     ensures sent { IfSome router.old.standing (λ r. IfOk result (λ answer. IfOk answer (λ sent.
-        sent.items ≡ emissions_left front.old (reload r.state config.now draw).1))) }
+        sent.items ≡ emissions_leaving front.old (reload r.state config.now draw).1))) }
     ensures led { IfSome router.old.standing (λ r. IfOk result (λ answer. OnOk answer (IfSome router.new.standing (λ after.
         LeadsOn r.state (Given.Reload config.now draw) after.state)))) }
     ensures front { IfSome router.old.standing (λ r. IfOk result (λ answer. OnOk answer

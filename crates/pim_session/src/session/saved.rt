@@ -10,7 +10,7 @@ ghost use Rattle.std.specs.Prelude.{◌≡◌, ◌++◌, ◌↔◌, [], Err, IfE
 
 use super::Session;
 use crate::saved;
-use igmp_older_saved::HeldRefusal;
+use igmp_older_saved::{HeldRefusal, write_saved};
 use pim_types::Fault;
 use std::alloc::Global;
 
@@ -49,6 +49,11 @@ impl Session {
         if self.is_lost {
             return Err(Fault::Failed);
         }
-        saved::save(&self.router, &self.front, out)
+        let alloc = *out.allocator();
+        let mut own = Vec::new(alloc);
+        self.router.save(&mut own)?;
+        let hosts = saved::hosts_of(alloc, &self.router, &self.front)?;
+        write_saved(&hosts, &own, out)?;
+        Ok(())
     }
 }

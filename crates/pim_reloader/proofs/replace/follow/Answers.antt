@@ -1,8 +1,8 @@
-use Rattle.std.{proofs.Common.{List, ap, ◌++◌, ◌∙◌}}
+use Rattle.std.{proofs.Common.{List, ap, sym, ◌++◌, ◌∙◌}}
 use Rattle.pim_types.{specs.declared.outcome.Emission.Emission}
 use Rattle.pim_model.{specs.State.State}
 use Rattle.pim_settling.{specs.Settling.settled_by}
-use Rattle.pim_reloader.{proofs.Following.followed}
+use Rattle.pim_reloader.{proofs.{Following.followed, Settled.settled_alone}}
 use Rattle.pim_reloader.proofs.replace.follow.Goals as goal
 
 pub returns-clause-state : goal.returns-clause-state
@@ -22,3 +22,17 @@ returns-clause-sent c =
     (followed c.args.world.now c.args.next c.reconfigure.new.world c.in_ok-gathered.gathered.opening c.args.turn.now
     c.reconfigure.new.turn c.requires.rest c.proof_keyed.ensures c.in_ok-gathered.ensures.opening
     c.in_ok-reconfigure.ensures.state c.in_ok-reconfigure.ensures.messages c.requires.begun)
+
+pub returns-then-differ_in_settings-clause-state : goal.returns-then-differ_in_settings-clause-state
+returns-then-differ_in_settings-clause-state c =
+    let same = c.differ_in_settings.ensures.0 c.if-differ_in_settings.true in
+    c.in_ok-put_settings.ensures
+    ∙ sym (ap (λ (p : State × List Emission). p.0)
+    (settled_alone c.args.world.now c.args.next c.args.turn.now.draw c.requires.rest same.0 same.1 same.2))
+
+pub returns-then-differ_in_settings-clause-sent : goal.returns-then-differ_in_settings-clause-sent
+returns-then-differ_in_settings-clause-sent c =
+    let same = c.differ_in_settings.ensures.0 c.if-differ_in_settings.true in
+    c.new.ensures.items
+    ∙ sym (ap (λ (p : State × List Emission). p.1)
+    (settled_alone c.args.world.now c.args.next c.args.turn.now.draw c.requires.rest same.0 same.1 same.2))

@@ -1,7 +1,7 @@
 use Rattle.std.{proofs.Common.{◌≡◌, ◌+◌, ◌∙◌}}
 use Rattle.pim_ifset.{specs.Members.mask_of}
 use Rattle.pim_c.{proofs.Bits.{low_agreed, high_agreed, shown_agrees}}
-use Rattle.pim_c.proofs.told.words.Goals as goal
+use Rattle.pim_c.proofs.returned.words.Goals as goal
 
 pub returns-clause-below : goal.returns-clause-below
 returns-clause-below c p agrees =

@@ -1,24 +1,26 @@
 //! What the router returns to a program: answers, packets and rows.
-ghost use Rattle.std.specs.Prelude.{◌≡◌, ◌+◌, ◌<◌, ◌≤◌, ◌^◌, IfErr, IfOk, if◌then◌else◌, nat_lt, true, ℕ};
+ghost use Rattle.std.specs.List.{slice_get};
+ghost use Rattle.std.specs.Prelude.{◌≡◌, ◌+◌, ◌<◌, ◌≤◌, ◌^◌, IfErr, IfOk, None, Option, false, filter, if◌then◌else◌, length, nat_lt, true, ℕ};
 ghost use Rattle.pim_fanout.specs.Before.{name_key};
+ghost use Rattle.pim_fanout.specs.Named.{keys_of};
 ghost use Rattle.pim_ifset.specs.Members.{has, mask_of};
 ghost use Rattle.pim_macros.specs.Rows.{number_of};
-ghost use Rattle.pim_mfc.specs.Laws.{IsAfresh};
+ghost use Rattle.pim_mfc.specs.Laws.{IsAfresh, TellsRow};
 ghost use Rattle.pim_model.specs.Cache.{Answers};
 ghost use Rattle.pim_model.specs.Cause.{is_on_link};
 ghost use Rattle.pim_model.specs.Sets.{Set};
 ghost use Rattle.law_plane.specs.Offered.{Offered as OfferedValue};
-ghost use Rattle.pim_mfc.specs.Shown.{ShowsOffered};
+ghost use Rattle.pim_mfc.specs.Shown.{ShowsOffered, TellsOffload};
 ghost use Rattle.pim_state.specs.Shown.{Shows};
-ghost use Rattle.pim_c.specs.Called.{forwarding_of, interface_bits, plane_row_of};
-ghost use Rattle.pim_c.specs.Told.{answer_number, bytes_in, guard_of, iface_number, ignored_number, kept_number, link_kind, loss_number, mode_number, name_of, older_group_of, older_hosts_of, query_version_of, set_number, stop_number, told_packet, table_of_letter, verdict_number, written_into};
+ghost use Rattle.pim_c.specs.Called.{AnswersWritten, NameWritten, OfferWritten, OlderWritten, PacketWritten, forwarding_of, interface_bits, is_copy, plane_row_of};
+ghost use Rattle.pim_c.specs.Returned.{answer_number, bytes_in, guard_of, iface_number, ignored_number, kept_number, link_kind, failure_number, mode_number, name_of, older_group_of, older_hosts_of, query_version_of, set_number, stop_number, c_packet, table_of_letter, verdict_number, written_into};
 
 use igmp_older::{Mode, OlderHosts, OlderRow, QueryVersion};
 use pim_ifset::IfSet;
 use pim_mfc::{CacheRow, Offered};
 use pim_rows::Table;
 use pim_session::Stop;
-use pim_types::{Addr, Emission, Fault, IfaceId, Ignored, Refusal, SourceGroup, Verdict};
+use pim_types::{Emission, Fault, IfaceId, Ignored, Refusal, SourceGroup, Verdict};
 
 /// The event was accepted and done.
 pub const DONE: u32 = 0;
@@ -82,8 +84,8 @@ fn verdict_number(verdict: Verdict) -> u32
 }
 
 /// The number of a fault after which the router has failed.
-pub fn loss_number(fault: Fault) -> u32
-    ensures { result ≡ loss_number fault }
+pub fn failure_number(fault: Fault) -> u32
+    ensures { result ≡ failure_number fault }
 {
     match fault {
         Fault::Memory => LOST,
@@ -99,7 +101,7 @@ pub fn stop_number(stop: Stop) -> u32
     match stop {
         Stop::Untaken => UNTAKEN,
         Stop::Guarded => GUARDED,
-        Stop::Fault(fault) => loss_number(fault),
+        Stop::Fault(fault) => failure_number(fault),
     }
 }
 
@@ -198,8 +200,8 @@ fn link_kind(is_copy: bool) -> u32
 }
 
 /// A packet without its bytes. One that leaves on an interface is marked as a copy of data or as none.
-pub fn outline(emission: &Emission, is_copy: bool) -> Packet
-    ensures { result ≡ told_packet emission.now is_copy }
+pub fn c_packet(emission: &Emission, is_copy: bool) -> Packet
+    ensures { result ≡ c_packet emission.now is_copy }
 {
     match emission {
         Emission::Link { iface, bytes } => Packet {
@@ -426,5 +428,94 @@ pub fn table(letter: u8) -> Option<Table>
         b'R' => Some(Table::Trees),
         b'F' => Some(Table::Active),
         _ => None,
+    }
+}
+
+// How many of the packets leave on links.
+fn links(sent: &[Emission]) -> usize
+    ensures { result ≡ length (filter is_on_link sent.now) }
+{
+    sent.iter().filter(|emission| is_on_link(emission)).count()
+}
+
+// Whether the packet before these is a copy, if it leaves on a link: the copies are the last of those.
+fn is_copy(copies: u32, others: &[Emission]) -> bool
+    ensures { result ≡ is_copy copies others.now }
+{
+    copies != 0 && links(others) < copies as usize
+}
+
+/// Writes out the first of the packets, if there is one, and if there is room for its bytes.
+pub fn write_packet(sent: &[Emission], copies: u32, packet: &mut Packet, room: &mut [u8]) -> bool
+    ensures { PacketWritten copies sent.now result packet.old packet.new room.old room.new }
+{
+    let Some((first, others)) = sent.split_first() else {
+        return false;
+    };
+    let bytes = bytes(first);
+    if room.len() < bytes.len() {
+        return false;
+    }
+    *packet = c_packet(first, is_copy(copies, others));
+    write(room, bytes);
+    true
+}
+
+/// Writes out one of the groups in an older mode, if it exists.
+pub fn write_older(rows: &[OlderRow], index: usize, row: &mut OlderGroup) -> bool
+    ensures { OlderWritten (slice_get rows.now index) result row.old row.new }
+{
+    match rows.get(index) {
+        Some(found) => {
+            *row = older_group(found);
+            true
+        }
+        None => false,
+    }
+}
+
+/// Writes out a row of the forwarding cache, with RPF_interface(RP(G)), if it exists.
+pub fn write_cached(
+    row: Option<CacheRow>,
+    shared_rpf: Option<IfaceId>,
+    forwarding: &mut Forwarding,
+) -> bool
+    ensures written { (answers : Option Answers) → TellsRow row answers
+        → AnswersWritten answers (number_of shared_rpf) result forwarding.old forwarding.new }
+    ensures none { row ≡ None → (result ≡ false) × (forwarding.new ≡ forwarding.old) }
+{
+    match row {
+        Some(row) => {
+            *forwarding = cache_row(&row, shared_rpf);
+            true
+        }
+        None => false,
+    }
+}
+
+/// Writes out what is offered of a source, if anything is.
+pub fn write_offload(offered: Option<Offered>, row: &mut PlaneRow) -> bool
+    ensures written { (offer : Option OfferedValue) → TellsOffload offered offer → OfferWritten offer result row.old row.new }
+    ensures none { offered ≡ None → (result ≡ false) × (row.new ≡ row.old) }
+{
+    match offered {
+        Some(offered) => {
+            *row = plane_row(&offered);
+            true
+        }
+        None => false,
+    }
+}
+
+/// Writes out one of the sources, if it exists.
+pub fn write_name(names: &[SourceGroup], index: usize, name: &mut NamedSource) -> bool
+    ensures { NameWritten (slice_get (keys_of names.now) index) result name.old name.new }
+{
+    match names.get(index) {
+        Some(found) => {
+            *name = named(found);
+            true
+        }
+        None => false,
     }
 }

@@ -5,7 +5,7 @@ use Rattle.pim_types.{specs.declared.{outcome.{Emission.Emission, Ignored.Ignore
 use Rattle.pim_rows.{specs.declared.table.Table.Table}
 use Rattle.igmp_older.{specs.declared.{mode.{Mode.Mode, OlderRow.OlderRow}, setting.{OlderHosts.OlderHosts, QueryVersion.QueryVersion}}}
 use Rattle.pim_session.{specs.declared.stop.Stop.Stop}
-use Rattle.pim_c.{specs.declared.told.{NamedSource.NamedSource, OlderGroup.OlderGroup, Packet.Packet}}
+use Rattle.pim_c.{specs.declared.returned.{NamedSource.NamedSource, OlderGroup.OlderGroup, Packet.Packet}}
 
 -- The number that stands for a timestamp that doesn't exist.
 abbrev pub never : ℕ
@@ -34,16 +34,16 @@ answer_number (Ok verdict) = verdict_number verdict
 answer_number (Err refusal) = refusal_number refusal
 
 -- The number of a fault after which the router has failed.
-abbrev pub loss_number : Fault → ℕ
-loss_number Fault.Memory = 43
-loss_number Fault.Failed = 41
-loss_number Fault.Wire = 42
+abbrev pub failure_number : Fault → ℕ
+failure_number Fault.Memory = 43
+failure_number Fault.Failed = 41
+failure_number Fault.Wire = 42
 
 -- The number of why an event wasn't taken.
 abbrev pub stop_number : Stop → ℕ
 stop_number Stop.Untaken = 55
 stop_number Stop.Guarded = 109
-stop_number (Stop.Fault fault) = loss_number fault
+stop_number (Stop.Fault fault) = failure_number fault
 
 -- The number that says whether a keepalive timer runs.
 abbrev pub kept_number : Bool → ℕ
@@ -93,10 +93,10 @@ abbrev pub link_kind : Bool → ℕ
 link_kind true = 2
 link_kind false = 1
 
-abbrev pub told_packet : Emission → Bool → Packet
-told_packet (Emission.Link iface bytes) is_copy =
+abbrev pub c_packet : Emission → Bool → Packet
+c_packet (Emission.Link iface bytes) is_copy =
     record { kind = link_kind is_copy; iface = iface.number; destination = 0; length = length bytes }
-told_packet (Emission.Unicast destination bytes) is_copy =
+c_packet (Emission.Unicast destination bytes) is_copy =
     record { kind = 3; iface = 0; destination = destination.bits; length = length bytes }
 
 -- Bytes written into a buffer from its start, as many as fit.
