@@ -1,9 +1,12 @@
 -- The sources of a group among what is listed, of which each that has a record is gathered.
-use Rattle.std.{proofs.{Common.{◌≡◌, ◌<◌, ◌==◌, ◌&&◌, ◌||◌, ℕ, Bool, true, false, List, ◌∷◌, Option, Some, None, is_some, refl, sym, ap, ◌∙◌}, Math.Bool.or-true}, specs.{BTreeMap.insert_entry, Cmp.{first_so, second_so}, List.{AllByRecursion, filter, list_any, Sorted.IsStrictlySortedBy}, Option.option_map_or, Ordering.nat_cmp}}
+use Rattle.std.{proofs.{Common.{◌≡◌, ◌<◌, ◌==◌, ◌&&◌, ◌||◌, ℕ, Bool, true, false, List, ◌∷◌, Option, Some, None, is_some, refl, sym, ap, subst, ◌∙◌}, Math.Bool.or-true, lemmas.List.Elements.recursion_from_All}, specs.{BTreeMap.insert_entry, Cmp.{first_so, second_so}, List.{All, AllByRecursion, filter, list_any, Sorted.IsStrictlySortedBy}, Option.option_map_or, Ordering.nat_cmp, Prelude.option_map}}
 use Rattle.pim_ip.{specs.declared.addr.Addr.Addr}
-use Rattle.pim_types.{specs.{declared.fact.Key.Key, Keys.{iface_in, is_of_group, key_cmp, names_source, source_in, source_key}}}
+use Rattle.pim_types.{specs.{declared.fact.Key.Key, Keys.{group_in, iface_in, is_of_group, key_cmp, key_of, names_source, source_in, source_key}}}
 use Rattle.pim_model.{specs.Tables.{Table, has_row, keys_in, row_at}}
-use Rattle.law_settled.{proofs.{ListLaws.each_more, TableLaws.{any_in_filter, any_of_map}}}
+use Rattle.pim_ifset.{specs.Members.has}
+use Rattle.pim_source_trie.{specs.Entries.{address_bits, entry_key}}
+use Rattle.pim_tables.{proofs.Firsts.all_found}
+use Rattle.law_settled.{proofs.{ListLaws.{each_both, each_more, each_passing}, TableLaws.{any_in_filter, any_of_map}}}
 use Rattle.igmp_membership.{specs.{Listing.{IsListed, in_entry, is_record_key, There}, Sources.{ArePlain, has_number, is_of_source}, declared.listed.Listed.Listed}, proofs.{Found.{any_alike, number_put}, Named.{none_at, none_named, number_of}, Told.{Fits, limit_below, not_rpt, there_told}}}
 
 -- ---- the keys of records
@@ -115,3 +118,40 @@ module _ {R : Type 0} (g n : ℕ) (rows : Table R) where
             sym (absent ∙ ap (λ (m : ℕ). list_any (names_source g m) (keys_in rows)) (number_of source.bits n same)) in
             (λ j. f || (off j && c)) ∙ sym (λ j. f || (off j && true))
         go false other f c = refl
+
+-- ---- what a walked entry lists
+
+module _ {R : Type 0} (g : ℕ) (rows : Table R) where
+  -- the entry of a source lists the interfaces with a record of it
+  abbrev pub Shows : Key × Listed → Type 0
+  Shows e = (source : Addr) → (e.0).source ≡ Some source
+      → (i : ℕ) → has (e.1).there i ≡ has_row rows (source_key i g source.bits)
+
+  module _ (runs : R → Bool) (of_sources : Bool) (marks : Table Listed) (listed : IsListed runs of_sources marks rows) where
+    key_is : (k : Key) (source : Addr) → k ≡ entry_key k.group k.source → is_of_group g k ≡ true → k.source ≡ Some source
+        → k ≡ source_key 0 g source.bits
+    key_is k source whole of is =
+        whole
+        ∙ (λ j. key_of 0 (number_of (group_in k) g of j) (option_map address_bits (is j)) false)
+
+    shows : (e : Key × Listed) → row_at marks e.0 ≡ Some e.1 → e.0 ≡ entry_key (e.0).group (e.0).source
+        → is_of_group g e.0 ≡ true → Shows e
+    unfolding has_row
+    shows e found whole of source is i =
+        ap (λ (o : Option Listed). in_entry There o i)
+        (sym found ∙ ap (λ (k : Key). row_at marks k) (key_is e.0 source whole of is))
+        ∙ (listed.told There i g (Some source.bits) ∙ there_told runs (row_at rows (source_key i g source.bits)))
+
+    pub all_shown : IsStrictlySortedBy key_cmp (keys_in marks)
+        → All (λ e. e.0 ≡ entry_key (e.0).group (e.0).source) marks
+        → (walked : Table Listed) → walked ≡ filter (λ e. is_of_group g e.0) marks → AllByRecursion Shows walked
+    all_shown sorted keys walked is =
+        subst (λ (t : Table Listed). AllByRecursion Shows t) (sym is)
+        (each_more (λ (e : Key × Listed). ((row_at marks e.0 ≡ Some e.1) × (e.0 ≡ entry_key (e.0).group (e.0).source))
+        × (is_of_group g e.0 ≡ true)) Shows (λ e has. shows e (has.0).0 (has.0).1 has.1)
+        (filter (λ e. is_of_group g e.0) marks)
+        (each_passing (λ (e : Key × Listed). (row_at marks e.0 ≡ Some e.1) × (e.0 ≡ entry_key (e.0).group (e.0).source))
+        (λ e. is_of_group g e.0) marks
+        (each_both (λ (e : Key × Listed). row_at marks e.0 ≡ Some e.1) (λ e. e.0 ≡ entry_key (e.0).group (e.0).source) _
+        (λ e found whole. (found, whole)) marks (all_found marks sorted)
+        (recursion_from_All (λ (e : Key × Listed). e.0 ≡ entry_key (e.0).group (e.0).source) marks keys))))

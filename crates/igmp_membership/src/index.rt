@@ -1,8 +1,9 @@
 //! Which interfaces are listed for all groups and sources.
-ghost use Rattle.std.specs.Prelude.{◌≡◌, ◌<◌, ◌≤◌, ◌+◌, [], ℕ, None, Some, OnErr, OnOk, filter, option_map};
-ghost use Rattle.pim_model.specs.Tables.{row_at};
+ghost use Rattle.std.specs.List.Sorted.{IsStrictlySortedBy};
+ghost use Rattle.std.specs.Prelude.{◌≡◌, ◌<◌, ◌≤◌, ◌+◌, [], ℕ, All, None, Some, OnErr, OnOk, filter, option_map};
+ghost use Rattle.pim_model.specs.Tables.{keys_in, row_at};
 ghost use Rattle.pim_source_trie.specs.Entries.{address_bits, entry_key};
-ghost use Rattle.pim_types.specs.Keys.{is_of_group};
+ghost use Rattle.pim_types.specs.Keys.{is_of_group, key_cmp};
 ghost use Rattle.igmp_membership.specs.Listing.{Lists, ListsAt, Side, in_side, listed, record_key};
 
 use crate::listed::Listed;
@@ -48,6 +49,14 @@ impl Index {
             Some(listed) => *listed,
             None => Listed::none(),
         }
+    }
+
+    // For the proof: the entries are under keys that rise, each of the whole router. Does nothing when it runs.
+    pub(crate) fn proof_keyed(&self)
+        ensures rising { IsStrictlySortedBy key_cmp (keys_in self.now) }
+        ensures keys { All (λ e. e.0 ≡ entry_key (e.0).group (e.0).source) self.now }
+    {
+        let _ = self.entries.is_empty();
     }
 
     // The interfaces listed for the group and for its sources.

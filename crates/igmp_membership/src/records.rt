@@ -196,11 +196,12 @@ impl<R: Record> Records<R> {
         // For the proof: the keys rise, and what form they have.
         self.proof_rising();
         self.proof_kind();
-        for (key, _) in self.index.walk(group, meter) {
+        self.index.proof_keyed();
+        for (key, marked) in self.index.walk(group, meter) {
             let Some(source) = key.source else {
                 continue;
             };
-            if self.has_source(SourceGroup { source, group }, meter) {
+            if !marked.there.without_tunnel().is_empty() {
                 found.insert(source, ())?;
             }
         }

@@ -17,7 +17,7 @@ pub trait Querier {
     ghost group_records: { Self → Table GroupRecordRow };
 
     /// The querier's present timestamp, in ms.
-    fn present(&self) -> u64
+    fn present_moment(&self) -> u64
         ensures { result ≡ present self.now };
 
     /// Whether the querier has a record of a group on an interface.

@@ -22,7 +22,7 @@ fn is_group_key(key: Key) -> bool
 fn is_held<Q: Querier>(querier: &Q, key: Key, row: HostRow) -> bool
     ensures { result ≡ is_held (Q.group_records querier.now) (Q.present querier.now) (key, row) }
 {
-    if !is_group_key(key) || !row.is_running(querier.present()) {
+    if !is_group_key(key) || !row.is_running(querier.present_moment()) {
         return false;
     }
     querier.has_group_record(key.iface, key.group)
@@ -38,7 +38,7 @@ fn held_of<Q: Querier>(
     ensures { IfOk result (λ hosts. hosts.items
         ≡ saved_hosts (Q.group_records querier.now) (Q.present querier.now) rows.entry) }
 {
-    let moment = querier.present();
+    let moment = querier.present_moment();
     let mut hosts = Vec::new(alloc);
     for (key, row) in rows {
         let host = HostRow::told(moment, *row);

@@ -84,20 +84,6 @@ impl<R: Net + Drop> UdpWire<R> {
             failures: 0,
         }
     }
-
-    /// The address of the socket of a port, which is bound if it wasn't yet. A fault is `Memory`, or `Wire` where it
-    /// can't be bound.
-    pub fn address(&mut self, port: u32) -> Result<SocketAddr, Fault>
-        ensures { self.new ≡ self.old }
-    {
-        bind(&self.net, &mut self.sockets, port)?;
-        for bound in &self.sockets {
-            if bound.port == port {
-                return Ok(bound.address);
-            }
-        }
-        Err(Fault::Wire)
-    }
 }
 
 /// The count of failures of a wire after a call.

@@ -126,7 +126,7 @@ fn is_joined(world: &World, meter: &mut Meter, name: SourceGroup) -> bool
 }
 
 // What goes of a source in the pass.
-fn clear_in_pass(
+fn clear_source_in_pass(
     world: &mut World,
     turn: &mut Turn,
     meter: &mut Meter,
@@ -144,7 +144,7 @@ fn clear_in_pass(
 }
 
 // What goes of a group's sources in the pass, one source after the other.
-fn clear_sources(
+fn clear_sources_in_pass(
     world: &mut World,
     turn: &mut Turn,
     meter: &mut Meter,
@@ -157,7 +157,7 @@ fn clear_sources(
         (each_in_turn (source_pass pass opened.now.group.bits) world.old opened.now.sources).1) }
 {
     for source in opened.sources.as_slice() {
-        clear_in_pass(world, turn, meter, pass, opened.group, *source)?;
+        clear_source_in_pass(world, turn, meter, pass, opened.group, *source)?;
     }
     Ok(())
 }
@@ -174,11 +174,11 @@ fn clear_asserts(
     ensures messages { OnOk result (turn.new ≡ saying turn.old (clear_asserts world.old opened.now).1) }
 {
     clear_star(world, turn, meter, opened)?;
-    clear_sources(world, turn, meter, Pass::Asserts, opened)
+    clear_sources_in_pass(world, turn, meter, Pass::Asserts, opened)
 }
 
 // What goes of a group in the pass.
-fn clear_group(
+fn clear_group_in_pass(
     world: &mut World,
     turn: &mut Turn,
     meter: &mut Meter,
@@ -190,12 +190,12 @@ fn clear_group(
 {
     match pass {
         Pass::Asserts => clear_asserts(world, turn, meter, opened),
-        Pass::Bits => clear_sources(world, turn, meter, Pass::Bits, opened),
+        Pass::Bits => clear_sources_in_pass(world, turn, meter, Pass::Bits, opened),
     }
 }
 
 // What goes of these groups in the pass, one group after the other.
-fn clear_groups(
+fn clear_groups_in_pass(
     world: &mut World,
     turn: &mut Turn,
     meter: &mut Meter,
@@ -206,7 +206,7 @@ fn clear_groups(
     ensures messages { OnOk result (turn.new ≡ saying turn.old (each_in_turn (group_pass pass) world.old groups.now).1) }
 {
     for opened in groups {
-        clear_group(world, turn, meter, pass, opened)?;
+        clear_group_in_pass(world, turn, meter, pass, opened)?;
     }
     Ok(())
 }
@@ -224,8 +224,8 @@ pub fn clear(
     ensures state { OnOk result (world.new ≡ (clear_by opening.now world.old).0) }
     ensures messages { OnOk result (turn.new ≡ saying turn.old (clear_by opening.now world.old).1) }
 {
-    clear_groups(world, turn, meter, Pass::Asserts, opening.groups())?;
-    clear_groups(world, turn, meter, Pass::Bits, opening.groups())
+    clear_groups_in_pass(world, turn, meter, Pass::Asserts, opening.groups())?;
+    clear_groups_in_pass(world, turn, meter, Pass::Bits, opening.groups())
 }
 
 // Whether none of the source's asserts must go.
@@ -287,7 +287,7 @@ fn clear_by_sight(
     if stays(world, pass, opened, sight) {
         return Ok(());
     }
-    clear_in_pass(world, turn, meter, pass, sight.star.group, opened)?;
+    clear_source_in_pass(world, turn, meter, pass, sight.star.group, opened)?;
     *sight = sight.gathered_again(world, meter);
     Ok(())
 }

@@ -1,5 +1,5 @@
 -- What a packet on a link is heard to be, and when no row decides an event.
-use Rattle.std.{proofs.{Common.{Err, IfOk, List, None, Ok, Option, arith, ap, false, length, refl, subst, sym, true, ℕ, ◌≡◌, ◌≤◌, ◌<◌, ◌∙◌}, Common.Global}, specs.Prelude.Box}
+use Rattle.std.{proofs.{Common.{Err, IfOk, List, None, Ok, Option, ap, false, length, refl, subst, sym, ℕ, ◌≡◌, ◌≤◌, ◌<◌, ◌∙◌}, Common.Global}, specs.Prelude.Box}
 use Rattle.pim_ip.{specs.Ipv4.Packet}
 use Rattle.pim_types.{specs.declared.{config.IfaceId.IfaceId, event.{Event.Event, EventKind.EventKind}, outcome.Stop.Stop}}
 use Rattle.pim_mrib.{specs.Routes.RouteTable}

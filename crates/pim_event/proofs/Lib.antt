@@ -11,6 +11,7 @@ mod Hearing
 mod Instants
 pub mod Listing
 mod Judgements
+mod AtRp
 mod Lasting
 mod Plainly
 mod Repeating

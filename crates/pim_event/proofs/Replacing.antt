@@ -7,7 +7,7 @@ use Rattle.law_events.{specs.{Rest.IsAtRest, Named.{has_same_routes, has_same_rp
 use Rattle.pim_state.{specs.declared.touched.Touched.Touched}
 use Rattle.law_plane.{specs.{Offered.offered, Staying.{OffersAlike, SourceStays}}, proofs.Staying.offer_stays}
 use Rattle.pim_rerouted.{specs.OtherRoutes.{group_has_other_rp, has_other_route, with_routes}}
-use Rattle.pim_event.{specs.{Replacing.{Disturbance, NoneReplaced, RangesReplaced, Replaced, RoutesReplaced, differs_by, event_replaced, may_differ, replaced_after, replaced_where, with_ranges}, Staying.{OffersStay, UntouchedOffersStay}}, proofs.Rerouting.{same_routes_stay, same_rps_stay}}
+use Rattle.pim_event.{specs.{Replacing.{NoneReplaced, RangesReplaced, Replaced, RoutesReplaced, differs_by, event_replaced, may_differ, replaced_after, replaced_where, with_ranges}, Staying.{OffersStay, UntouchedOffersStay}}, proofs.Rerouting.{same_routes_stay, same_rps_stay}}
 
 -- ---- other routes by a table
 

@@ -1,3 +1,4 @@
+pub mod AtRp
 pub mod Caching
 pub mod Hearing
 pub mod Listing

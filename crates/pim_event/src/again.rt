@@ -1,14 +1,20 @@
-//! A Join/Prune that repeats what is known, taken in place: the ends of the rows are moved that it joins.
+//! A Join/Prune or a report that repeats what is known, taken in place: the ends of the rows are moved that it names.
 ghost use Rattle.law_settled.specs.Ready.{IsOrdered};
 ghost use Rattle.pim_downstream.specs.Naming.{are_on};
 ghost use Rattle.pim_model.specs.Downstream.{keys_taken};
+ghost use Rattle.pim_model.specs.Querier.{group_membership_interval};
+ghost use Rattle.pim_model.specs.Tables.{put};
 ghost use Rattle.pim_plan.specs.Rejoining.{repeats, rows_put};
-ghost use Rattle.std.specs.Prelude.{◌≡◌, ◌<◌, OnOk, true};
+ghost use Rattle.pim_plan.specs.Renewing.{group_renewed, groups_renewed};
+ghost use Rattle.pim_types.specs.Keys.{star_key};
+ghost use Rattle.std.specs.Prelude.{◌≡◌, ◌+◌, ◌<◌, OnOk, Some, true};
 
+use igmp_wire::{RecordView, ReportView};
 use pim_downstream::Named;
 use pim_neighbours::holdtime_end;
+use pim_querier::intervals::group_membership_interval;
 use pim_state::{Meter, World};
-use pim_types::fact::DownstreamRow;
+use pim_types::fact::{DownstreamRow, GroupRecordRow};
 use pim_types::{IfaceId, Key};
 use std::alloc::AllocError;
 
@@ -52,4 +58,63 @@ pub(crate) fn take_again(
         pending: None,
     };
     put_rows(world, meter, iface, &named.joined, row)
+}
+
+// Sets the timer of the record's group until a timestamp, in ms.
+#[tactic(auto, unfolding(pim_model::specs::Tables::set_row))]
+fn set_group_end(
+    world: &mut World,
+    meter: &mut Meter,
+    iface: IfaceId,
+    group_record: &RecordView<'_>,
+    end: u64,
+) -> Result<(), AllocError>
+    requires { iface.number < 120 }
+    ensures { OnOk result (world.new ≡ record world.old {
+      group_records = put world.old.group_records (star_key iface.number group_record.now.group) (record { end = Some end });
+    }) }
+{
+    let row = GroupRecordRow { end: Some(end) };
+    world
+        .membership_mut()
+        .set_group_record(iface, group_record.group(), Some(row), meter)
+}
+
+// Renews the record's group until a timestamp, in ms.
+#[tactic(auto, unfolding(pim_plan::specs::Renewing::group_renewed))]
+fn renew(
+    world: &mut World,
+    meter: &mut Meter,
+    iface: IfaceId,
+    group_record: &RecordView<'_>,
+    end: u64,
+) -> Result<(), AllocError>
+    requires { iface.number < 120 }
+    ensures { OnOk result (world.new ≡ group_renewed iface.number end world.old group_record.now) }
+{
+    set_group_end(world, meter, iface, group_record, end)?;
+    world
+        .membership_mut()
+        .remove_source_repeat(iface, group_record.group());
+    Ok(())
+}
+
+/// Takes a report that changes no more than when the timers of its groups expire. If an allocation fails, some timers may
+/// be set and others not.
+#[tactic(auto, unfolding(pim_plan::specs::Renewing::groups_renewed))]
+pub(crate) fn take_renewed(
+    world: &mut World,
+    meter: &mut Meter,
+    iface: IfaceId,
+    report: &ReportView<'_>,
+) -> Result<(), AllocError>
+    requires { iface.number < 120 }
+    ensures { OnOk result (world.new ≡ groups_renewed iface.number
+        (world.old.present + group_membership_interval world.old iface.number) world.old report.now) }
+{
+    let end = world.present() + group_membership_interval(world, iface);
+    for group_record in report.records() {
+        renew(world, meter, iface, &group_record, end)?;
+    }
+    Ok(())
 }

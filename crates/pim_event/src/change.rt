@@ -1,5 +1,5 @@
 //! The change that an event makes by itself, before anything follows of it.
-ghost use Rattle.std.specs.Prelude.{◌≡◌, ◌<◌, IfOk, OnOk};
+ghost use Rattle.std.specs.Prelude.{◌≡◌, ◌<◌, IfOk, IfSome, OnOk};
 ghost use Rattle.pim_state.specs.Turns.{saying};
 ghost use Rattle.pim_wire.specs.RegisterParts.{is_null, registered_group, registered_source};
 ghost use Rattle.pim_model.specs.Forwarding.{forwarded, register_received};
@@ -7,9 +7,11 @@ ghost use Rattle.pim_model.specs.State.{iface_count};
 ghost use Rattle.pim_model.specs.Step.{change, decapsulated, iface_up, packet_forwarded, rps_replaced};
 ghost use Rattle.pim_plan.specs.Acting.{HasHeard, HasRead, IsSightOf, control_event, act_event};
 ghost use Rattle.pim_plan.specs.Naming.{IsConfigured};
+ghost use Rattle.pim_event.specs.AtRp.{IsKnown, IsKnownIn};
 ghost use Rattle.pim_event.specs.Replacing.{RangesReplaced, RoutesReplaced, replaced_after};
 ghost use Rattle.pim_event.specs.Sending.{Sends};
 
+use crate::rendezvous::{SourceAtRp, register_seen};
 use crate::replaced::Replaced;
 use pim_data::{Leaving, arrived, leave};
 use pim_downstream::take_changes;
@@ -18,7 +20,6 @@ use pim_ip::Ipv4View;
 use pim_macros::SourceSight;
 use pim_mrib::Mrib;
 use pim_plan::{Act, Control};
-use pim_register::register_seen;
 use pim_state::{Meter, Turn, World};
 use pim_types::fact::InterfaceRow;
 use pim_types::{IfaceId, SourceGroup};
@@ -66,12 +67,14 @@ fn decapsulate(
     meter: &mut Meter,
     packet: &Ipv4View<'_>,
     register: &RegisterView<'_>,
+    known: Option<SourceAtRp>,
 ) -> Result<Leaving, AllocError>
+    requires { IfSome known (IsKnown world.old packet.now register.now) }
     ensures { IfOk result (λ leaving. Sends leaving world.new turn.old turn.new (decapsulated register.now
         (register_received world.old packet.now (registered_group register.now) (registered_source register.now)
         (is_null register.now)))) }
 {
-    let list = register_seen(world, turn, meter, packet, register)?;
+    let list = register_seen(world, turn, meter, packet, register, known)?;
     match register.inner() {
         Some(inner) => leave(world, turn, meter, inner, list),
         None => Ok(Leaving::nothing(turn.alloc)),
@@ -109,17 +112,20 @@ fn take_ranges(
     Ok(())
 }
 
-/// Does what an event is to do, and returns what leaves of its packet, if it has one. The routes or RP ranges that it
-/// replaces are kept. If an allocation fails, the state may be changed in part.
+/// Does what an event is to do, and returns what leaves of its packet, if it has one. What is known of the source of a
+/// Register isn't gathered. The routes or RP ranges that it replaces are kept. If an allocation fails, the state may be
+/// changed in part.
 pub(crate) fn apply(
     world: &mut World,
     turn: &mut Turn,
     meter: &mut Meter,
     replaced: &mut Replaced,
     act: Act<'_>,
+    known: Option<SourceAtRp>,
 ) -> Result<Leaving, AllocError>
     requires configured { IsConfigured world.old (act_event act) }
     requires read { HasRead world.old act }
+    requires known { IfSome known (IsKnownIn world.old (act_event act)) }
     ensures sends { IfOk result (λ leaving. Sends leaving world.new turn.old turn.new
         (change world.old turn.old.draw (act_event act.entry))) }
     ensures replaced { OnOk result (replaced.new ≡ replaced_after world.old (act_event act.entry) replaced.old) }
@@ -134,7 +140,9 @@ pub(crate) fn apply(
             world.interfaces().proof_few();
             forward(world, turn, meter, iface, &packet, Box::into_inner(sight))
         }
-        Act::Register { packet, register } => decapsulate(world, turn, meter, &packet, &register),
+        Act::Register { packet, register } => {
+            decapsulate(world, turn, meter, &packet, &register, known)
+        }
         Act::Control(control) => {
             apply_control(world, turn, meter, replaced, control)?;
             Ok(Leaving::nothing(turn.alloc))

@@ -1,7 +1,7 @@
 //! One event: its tests, its change where there is room for its facts, and what follows of the change.
-ghost use Rattle.law_events.specs.Adjacent.{hello_keeps_dr};
 ghost use Rattle.law_events.specs.Rest.{IsAtRest};
 ghost use Rattle.law_plane.specs.Staying.{is_rerouting};
+ghost use Rattle.pim_event.specs.AtRp.{IsKnown};
 ghost use Rattle.pim_event.specs.Hearing.{IsUndecided};
 ghost use Rattle.pim_event.specs.Replacing.{replaced_after};
 ghost use Rattle.pim_event.specs.Staying.{OffersStay, moves_all, moves_dr};
@@ -14,10 +14,12 @@ ghost use Rattle.pim_intake.specs.Memory.{is_frame};
 ghost use Rattle.pim_ip.specs.declared.fault.Fault.{Fault};
 ghost use Rattle.pim_macros.specs.Sights.{IsSourceSight};
 ghost use Rattle.pim_model.specs.Judging.{judged};
+ghost use Rattle.pim_model.specs.Sets.{is_kept_alive};
 ghost use Rattle.pim_model.specs.State.{State};
 ghost use Rattle.pim_model.specs.Step.{change, outcome_of, step, taken};
 ghost use Rattle.pim_model.specs.Sure.{needs_no_memory};
 ghost use Rattle.pim_model.specs.Tables.{same_bool};
+ghost use Rattle.pim_model.specs.declared.accepted.Accepted.{Accepted as AcceptedValue};
 ghost use Rattle.pim_plan.specs.Acting.{HasRead, control_event, act_event};
 ghost use Rattle.pim_plan.specs.Naming.{Brings, IsConfigured};
 ghost use Rattle.pim_plan.specs.Planning.{Fits};
@@ -26,20 +28,24 @@ ghost use Rattle.pim_state.specs.declared.touched.Touched.{Touched as TouchedVal
 ghost use Rattle.pim_trie.specs.Meter.{raised};
 ghost use Rattle.pim_types.specs.declared.event.EventKind.{EventKind as EventValue};
 ghost use Rattle.pim_types.specs.declared.outcome.Verdict.{Verdict as VerdictValue};
+ghost use Rattle.pim_wire.specs.RegisterParts.{registered_group, registered_source};
 ghost use Rattle.std.specs.Prelude.{◌≡◌, ◌≤◌, [], IfOk, IfSome, IsOk, IsOkUnless, IsTrue, None, Ok, OnOk, false, if◌then◌else◌, length, not, true};
 
-use crate::again::take_again;
+use crate::again::{take_again, take_renewed};
 use crate::change::apply;
 use crate::hear::{Heard, hear};
+use crate::known::known_source;
 use crate::parts::Core;
 use crate::plain::take_plain;
 use crate::quiet::{change_quietly, is_nothing};
+use crate::rendezvous::SourceAtRp;
 use crate::replaced::Replaced;
 use crate::time::advance;
 use pim_data::Leaving;
 use pim_fanout::Gathered;
 use pim_hello::hello_keeps_dr;
 use pim_intake::{LentEvent, judge};
+use pim_ip::Ipv4View;
 use pim_macros::SourceSight;
 use pim_messages::Room;
 use pim_model::Accepted;
@@ -48,8 +54,8 @@ use pim_plan::{Act, Control, Plan, Planning, planned};
 use pim_settling::settle::settle;
 use pim_state::{Touched, Turn, World};
 use pim_trie::Meter;
-use pim_types::{Addr, Fault, IfaceId, Outcome, Refusal, Series, SourceGroup, Stop, Verdict};
-use pim_wire::Hello;
+use pim_types::{Fault, IfaceId, Outcome, Refusal, Series, SourceGroup, Stop, Verdict};
+use pim_wire::RegisterView;
 use std::alloc::Global;
 
 // The outcome of an event that was done, of which nothing is sent.
@@ -121,7 +127,7 @@ fn change_world(
     ensures fault { IsOkUnless result Fault.Memory }
 {
     if is_nothing(touched) {
-        let outcome = change_quietly(world, turn, meter, replaced, act)?;
+        let outcome = change_quietly(world, turn, meter, replaced, act, None)?;
         let names = Series::new(turn.alloc);
         return Ok(Changed { outcome, names });
     }
@@ -130,7 +136,7 @@ fn change_world(
     let Leaving {
         mut copies,
         mut registered,
-    } = apply(world, turn, meter, replaced, act)?;
+    } = apply(world, turn, meter, replaced, act, None)?;
     // For the proof: asserts, sources and registers are under keys of their kind.
     world.proof_keyed();
     let count = copies.len() as u32;
@@ -176,19 +182,6 @@ fn is_rerouting(act: &Act<'_>) -> bool
     }
 }
 
-// Whether a Hello changes whether the router is the DR. No election is held for one that only says that its neighbour
-// lasts.
-fn hello_moves_dr(world: &World, iface: IfaceId, from: Addr, hello: &Hello) -> bool
-    ensures { result ≡ not (hello_keeps_dr world.now iface.number from.bits hello.now) }
-{
-    // For the proof: the keys of neighbours rise.
-    let _ = world.neighbours().len();
-    if world.neighbours().is_refreshed(iface, from, hello) {
-        return false;
-    }
-    !hello_keeps_dr(world, iface, from, hello)
-}
-
 // Whether an event that forwards no packet may change of which interfaces the router is the DR.
 #[tactic(auto, unfolding(crate::specs::Staying::moves_dr))]
 fn control_moves_dr(world: &World, control: &Control<'_>) -> bool
@@ -197,7 +190,7 @@ fn control_moves_dr(world: &World, control: &Control<'_>) -> bool
     match control {
         Control::Up { .. } => true,
         Control::Down { .. } => true,
-        Control::Hello { iface, from, hello } => hello_moves_dr(world, *iface, *from, hello),
+        Control::Hello { iface, from, hello } => !hello_keeps_dr(world, *iface, *from, hello),
         Control::Routes { .. } => false,
         Control::Ranges { .. } => false,
         Control::JoinPruneToMe { .. } => false,
@@ -236,7 +229,7 @@ fn disturbed_where(moves_all: bool, touched: Touched) -> Touched
 }
 
 // Makes a change, and then evaluates the rows of the named sources again.
-fn take_change(
+fn change_and_refresh(
     core: &mut Core,
     turn: &mut Turn,
     meter: &mut Meter,
@@ -273,9 +266,9 @@ fn take_change(
     Ok(outcome)
 }
 
-// Takes an accepted event: an Advance lets time pass, a Join/Prune that repeats what is known moves the ends of its rows,
-// and any other event is refused where there is no room for the facts that it names.
-fn take_unless_full(
+// Takes an accepted event: an Advance lets time pass, a Join/Prune, a Hello or a report that repeats what is known moves
+// ends of rows, and any other event is refused where there is no room for the facts that it names.
+fn plan_and_act(
     core: &mut Core,
     turn: &mut Turn,
     meter: &mut Meter,
@@ -300,7 +293,92 @@ fn take_unless_full(
             take_again(&mut core.world, meter, iface, holdtime, &named)?;
             Ok(done_silently(turn.alloc))
         }
-        Planning::Change(plan) => take_change(core, turn, meter, plan),
+        Planning::Refreshed { iface, from, hello } => {
+            // For the proof: there are at most 120 interfaces.
+            core.world.interfaces().proof_few();
+            core.world.replace_neighbour(iface, from, &hello)?;
+            // For the proof: asserts, sources and registers are under keys of their kind.
+            core.world.proof_keyed();
+            Ok(done_silently(turn.alloc))
+        }
+        Planning::Renewed { iface, report } => {
+            // For the proof: the interface is below 120.
+            core.world.interfaces().proof_few();
+            take_renewed(&mut core.world, meter, iface, &report)?;
+            // For the proof: asserts, sources and registers are under keys of their kind.
+            core.world.proof_keyed();
+            Ok(done_silently(turn.alloc))
+        }
+        Planning::Change(plan) => change_and_refresh(core, turn, meter, plan),
+    }
+}
+
+// Takes a Register to the RP of its group, by what is known of its source, whose keepalive timer runs. It touches nothing.
+fn act_on_known_source(
+    core: &mut Core,
+    turn: &mut Turn,
+    meter: &mut Meter,
+    packet: Ipv4View<'_>,
+    register: RegisterView<'_>,
+    source: SourceAtRp,
+) -> Result<Outcome, Fault>
+    requires begun { BeginsTurn core.old turn.old (AcceptedValue.Register packet register) }
+    requires known { IsKnown core.old.world packet register source }
+    requires kept { is_kept_alive core.old.world (registered_group register) (registered_source register) ≡ true }
+    ensures { TurnsUnlessFull core.old turn.old.draw (AcceptedValue.Register packet.entry register.entry) result core.new }
+{
+    // For the proof: there are at most 120 interfaces.
+    core.world.interfaces().proof_few();
+    change_quietly(
+        &mut core.world,
+        turn,
+        meter,
+        &mut core.replaced,
+        Act::Register { packet, register },
+        Some(source),
+    )
+}
+
+// Takes a Register.
+fn act_on_register(
+    core: &mut Core,
+    turn: &mut Turn,
+    meter: &mut Meter,
+    packet: Ipv4View<'_>,
+    register: RegisterView<'_>,
+) -> Result<Outcome, Fault>
+    requires { BeginsTurn core.old turn.old (AcceptedValue.Register packet register) }
+    ensures { TurnsUnlessFull core.old turn.old.draw (AcceptedValue.Register packet.entry register.entry) result core.new }
+{
+    match known_source(&core.world, core.cache.mfc(), meter, &packet, &register) {
+        Some(source) => act_on_known_source(core, turn, meter, packet, register, source),
+        None => plan_and_act(
+            core,
+            turn,
+            meter,
+            Accepted::Register { packet, register },
+            None,
+        ),
+    }
+}
+
+// Takes an accepted event.
+fn act_on_accepted(
+    core: &mut Core,
+    turn: &mut Turn,
+    meter: &mut Meter,
+    accepted: Accepted<'_>,
+    table: Option<Box<Mrib>>,
+) -> Result<Outcome, Fault>
+    requires begun { BeginsTurn core.old turn.old accepted }
+    requires table { Brings accepted table }
+    ensures { TurnsUnlessFull core.old turn.old.draw accepted.entry result core.new }
+{
+    match accepted {
+        Accepted::Register { packet, register } => {
+            act_on_register(core, turn, meter, packet, register)
+        }
+        accepted => plan_and_act(core, turn, meter, accepted, table),
     }
 }
 
@@ -314,7 +392,7 @@ fn has_room_changed(was_full: bool, is_full: bool) -> bool
 
 // Takes an accepted event in a turn of its own.
 #[tactic(auto, unfolding(pim_model::specs::Step::step))]
-fn take_in_own_turn(
+fn act_in_own_turn(
     core: &mut Core,
     event: &LentEvent<'_>,
     accepted: Accepted<'_>,
@@ -326,7 +404,7 @@ fn take_in_own_turn(
 {
     let mut turn = Turn::new(core.room.taken(), event.draw());
     let was_full = core.world.passes_limit(1);
-    let outcome = take_unless_full(core, &mut turn, meter, accepted, table)?;
+    let outcome = act_on_accepted(core, &mut turn, meter, accepted, table)?;
     let is_full = core.world.passes_limit(1);
     let has_changed = has_room_changed(was_full, is_full);
     core.cache.disturb_all_if(has_changed);
@@ -336,7 +414,7 @@ fn take_in_own_turn(
 }
 
 // Takes an event as what it was judged to be, where no row decides it: in a turn of its own where it is accepted.
-fn take_judged(
+fn act_on_judgement(
     core: &mut Core,
     event: &LentEvent<'_>,
     judgement: Result<Accepted<'_>, Stop>,
@@ -351,13 +429,13 @@ fn take_judged(
     ensures sure { IsTrue (needs_no_memory (step core.old.world event.now).answer) → IsOk result }
 {
     match judgement {
-        Ok(accepted) => take_in_own_turn(core, event, accepted, table, meter),
+        Ok(accepted) => act_in_own_turn(core, event, accepted, table, meter),
         Err(stop) => Ok(stopped(core.room.alloc, stop)),
     }
 }
 
 // Takes a packet on a link.
-fn take_frame(
+fn hear_packet(
     core: &mut Core,
     event: &LentEvent<'_>,
     iface: IfaceId,
@@ -376,12 +454,12 @@ fn take_frame(
         Heard::Plain { packet, forward } => {
             take_plain(&mut core.room, &mut core.world, &packet, forward, meter)
         }
-        Heard::Other(judgement) => take_judged(core, event, judgement, None, meter),
+        Heard::Other(judgement) => act_on_judgement(core, event, judgement, None, meter),
     }
 }
 
 // Takes an event that is no packet on a link.
-fn take_other(core: &mut Core, event: &LentEvent<'_>, meter: &mut Meter) -> Result<Outcome, Fault>
+fn judge_event(core: &mut Core, event: &LentEvent<'_>, meter: &mut Meter) -> Result<Outcome, Fault>
     requires begun { Begins core.old }
     requires other { is_frame event.now.kind ≡ false }
     ensures steps { Steps core.old event.now result core.new meter.new }
@@ -389,7 +467,7 @@ fn take_other(core: &mut Core, event: &LentEvent<'_>, meter: &mut Meter) -> Resu
 {
     let mut table = None;
     let judgement = judge(core.room.alloc, &core.world, event, &mut table, meter)?;
-    take_judged(core, event, judgement, table, meter)
+    act_on_judgement(core, event, judgement, table, meter)
 }
 
 /// Takes an event. The meter counts the trie nodes that it visits, the cache counts the rows that it touches and lists
@@ -408,7 +486,7 @@ pub fn take_in(core: &mut Core, event: &LentEvent<'_>, meter: &mut Meter) -> Res
     // For the proof: there are at most 120 interfaces.
     core.world.interfaces().proof_few();
     match event.as_frame() {
-        Some((iface, bytes)) => take_frame(core, event, iface, bytes, meter),
-        None => take_other(core, event, meter),
+        Some((iface, bytes)) => hear_packet(core, event, iface, bytes, meter),
+        None => judge_event(core, event, meter),
     }
 }

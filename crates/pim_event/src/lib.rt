@@ -6,9 +6,11 @@ mod again;
 pub mod change;
 pub mod event;
 mod hear;
+mod known;
 pub mod parts;
 mod plain;
 mod quiet;
+mod rendezvous;
 mod replaced;
 pub mod time;
 

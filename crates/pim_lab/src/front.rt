@@ -29,8 +29,8 @@ impl Querier for Asked<'_> {
 
     ghost group_records = { λ a. option_map_or (λ r. r.state.group_records) a.router.now.standing [] };
 
-    fn present(&self) -> u64 {
-        self.router.present()
+    fn present_moment(&self) -> u64 {
+        self.router.present_moment()
     }
 
     fn has_group_record(&self, iface: IfaceId, group: Addr) -> bool {

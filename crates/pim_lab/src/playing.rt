@@ -149,14 +149,14 @@ fn run<W: Wire, O: Write>(
 {
     let mut lab = lab;
     let mut lines = Lines::new(alloc);
-    make_moves(&mut lab, moves, &mut lines, out)?;
+    play_moves(&mut lab, moves, &mut lines, out)?;
     if tables {
         print_tables(&lab, &mut lines, out)?;
     }
     Ok(())
 }
 
-pub(crate) fn make_moves<W: Wire, O: Write>(
+pub(crate) fn play_moves<W: Wire, O: Write>(
     lab: &mut Lab<W>,
     moves: Series<ScenarioMove>,
     lines: &mut Lines,

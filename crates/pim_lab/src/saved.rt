@@ -3,7 +3,7 @@ ghost use Rattle.pim_lab.specs.Statuses.{IsAccepted};
 ghost use Rattle.std.specs.Prelude.{◌≡◌, ◌⊎◌};
 
 use crate::lab::Lab;
-use crate::playing::{Opened, make_moves, open_scenario, print_tables};
+use crate::playing::{Opened, open_scenario, play_moves, print_tables};
 use igmp_older_saved::HeldRefusal;
 use lab_parts::{Lines, Trouble};
 use pim_net::{Unrestored, Wire};
@@ -163,7 +163,7 @@ fn run_saved<'a, W: Wire, O: Write>(
     let mut lab = lab;
     let mut lines = Lines::new(alloc);
     start(&mut lab, states)?;
-    make_moves(&mut lab, moves, &mut lines, out)?;
+    play_moves(&mut lab, moves, &mut lines, out)?;
     if tables {
         print_tables(&lab, &mut lines, out)?;
     }

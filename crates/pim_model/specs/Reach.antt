@@ -16,8 +16,8 @@ alike_where same test t u = same_rows same (rows_where test t) (rows_where test 
 
 -- for a source no row of (S,G) or (S,G,rpt) differs, no group record, no downstream or assert row of (*,G), and none of
 -- route(S), RP(G) and route(RP(G))
-unfoldable pub is_same_for : ℕ → ℕ → State → State → Bool
-is_same_for g src s t =
+unfoldable pub agrees_for_source : ℕ → ℕ → State → State → Bool
+agrees_for_source g src s t =
     alike_where same_source_record (names_source g src) s.source_records t.source_records
     && alike_where same_downstream (names_source g src) s.downstream t.downstream
     && alike_where same_assert (names_source g src) s.asserts t.asserts
@@ -52,7 +52,7 @@ passes o changed =
 unfoldable pub differs_among : ℕ → ℕ → List State → Bool
 differs_among g src [] = false
 differs_among g src (s ∷ later) =
-    list_any (λ t. not (is_same_for g src s t)) later || differs_among g src later
+    list_any (λ t. not (agrees_for_source g src s t)) later || differs_among g src later
 
 -- ---- reach
 

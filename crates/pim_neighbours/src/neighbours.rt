@@ -3,7 +3,7 @@ ghost use Rattle.std.specs.Prelude.{◌≡◌, ◌↔◌, ◌+◌, ◌<◌, ◌�
 ghost use Rattle.std.specs.List.Sorted.{IsStrictlySortedBy};
 ghost use Rattle.pim_model.specs.Clearing.{first_by};
 ghost use Rattle.pim_model.specs.Downstream.{holdtime_end_from};
-ghost use Rattle.pim_model.specs.Hellos.{is_generation_changed_among, neighbours_replaced, row_of_hello};
+ghost use Rattle.pim_model.specs.Hellos.{is_generation_changed_among, is_other_generation, neighbours_replaced, row_of_hello};
 ghost use Rattle.pim_model.specs.Neighbours.{all_have_priority, is_better_dr, is_dr_among, is_suppression_among, nbr_among, override_interval_among, propagation_delay_among, t_override_among, t_suppressed_among};
 ghost use Rattle.std.specs.List.{list_any};
 ghost use Rattle.pim_model.specs.Tables.{drop_at, drop_where, has_row, keys_in, put, row_at, rows_on, same_option};
@@ -36,6 +36,17 @@ fn is_same_priority(first: Option<u32>, second: Option<u32>) -> bool
         (None, None) => true,
         (Some(first), Some(second)) => first == second,
         _ => false,
+    }
+}
+
+// Whether these generation IDs are both known, and differ.
+fn is_other_generation(before: Option<u32>, after: Option<u32>) -> bool
+    ensures { result ≡ is_other_generation before after }
+{
+    match (before, after) {
+        (Some(before), Some(after)) => before != after,
+        (None, _) => false,
+        (Some(_), None) => false,
     }
 }
 
@@ -340,15 +351,12 @@ impl Neighbours {
         let Some(row) = self.get(iface, address) else {
             return false;
         };
-        match (row.generation, hello.generation) {
-            (Some(before), Some(after)) => before != after,
-            _ => false,
-        }
+        is_other_generation(row.generation, hello.generation)
     }
 
     /// Whether the Hello changes no more than when its neighbour expires: the neighbour is known with this priority,
     /// and didn't restart.
-    #[tactic(auto, unfolding(crate::specs::Refreshed::is_refreshed))]
+    #[tactic(auto, unfolding(crate::specs::Refreshed::is_refreshed, pim_model::specs::Hellos::is_generation_changed_among))]
     pub fn is_refreshed(&self, iface: IfaceId, address: Addr, hello: &Hello) -> bool
         ensures { result ≡ is_refreshed self.now iface.number address.bits hello.now }
     {
@@ -357,7 +365,7 @@ impl Neighbours {
         };
         is_same_priority(row.priority, hello.priority)
             && hello.holdtime.unwrap_or(DEFAULT_HOLDTIME) != 0
-            && !self.is_generation_changed(iface, address, hello)
+            && !is_other_generation(row.generation, hello.generation)
     }
 
     /// Sets the neighbour's row as its Hello says, which came at the present time, in ms. Without a Holdtime option it

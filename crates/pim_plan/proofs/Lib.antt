@@ -9,6 +9,7 @@ mod MovedReports
 mod Packets
 mod Plans
 pub mod Rejoined
+pub mod Renewed
 pub mod Repeats
 pub mod Sourced
 mod Stopped

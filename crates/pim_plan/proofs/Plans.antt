@@ -67,11 +67,7 @@ all_where on is = rw is refl
 pub none_where : (on : Bool) → on ≡ false → Touched.Keys [] ≡ (if on then Touched.All else Touched.Keys [])
 none_where on isnt = rw isnt refl
 
--- keys that are touched on a condition
-pub keys_where : (on : Bool) (keys none : List Key) (otherwise : Touched) → on ≡ true → keys ≡ none
-    → Touched.Keys keys ≡ (if on then Touched.Keys none else otherwise)
-keys_where on keys none otherwise is are = rw is (ap Touched.Keys are)
-
+-- something else is touched on a condition
 pub else_where : (on : Bool) (none otherwise : Touched) → on ≡ false → otherwise ≡ (if on then none else otherwise)
 else_where on none otherwise isnt = rw isnt refl
 

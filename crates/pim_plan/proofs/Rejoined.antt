@@ -1,5 +1,5 @@
 -- A message that repeats what is known: it touches no key, makes no fact, and takes the rows that it joins to its end.
-use Rattle.std.{proofs.{Common.{◌≡◌, ◌==◌, ◌&&◌, ◌++◌, ◌∙◌, ◌∷◌, ℕ, Bool, List, [], None, Option, Some, ap, append-nil, arith, cond, eq-eqb, false, filter, is_none, is_some, length, max, not, refl, subst, suc, sym, true, zero}, lemmas.Bool.{Decides.nat_tests, or_left, or_right}}, specs.{Cmp.{Derive.both_true, first_so, second_so}, List.{AllByRecursion, list_all, list_any}, Prelude.{fold, if◌then◌else◌}}}
+use Rattle.std.{proofs.{Common.{◌≡◌, ◌==◌, ◌&&◌, ◌++◌, ◌∙◌, ◌∷◌, ℕ, Bool, List, [], None, Option, Some, ap, append-nil, arith, cond, eq-eqb, false, filter, is_none, is_some, length, not, refl, suc, sym, true, zero}, lemmas.Bool.{Decides.nat_tests, or_left, or_right}}, specs.{Cmp.{Derive.both_true, first_so, second_so}, List.{AllByRecursion, list_all, list_any}, Prelude.{fold, if◌then◌else◌}}}
 use Rattle.pim_types.{specs.{declared.fact.{AssertRow.AssertRow, DownstreamRow.DownstreamRow, Key.Key}, Keys.{group_in, is_of_group, is_on, same_key, star_key}}, proofs.Keys.{equal_keys, same_key_same}}
 use Rattle.law_settled.{proofs.ListLaws.{any_among_all, each_append, each_both, each_filter, each_more, each_of_list}, specs.Ready.{IsOrdered, Rises}}
 use Rattle.law_events.{specs.JoinPrunes.{moved_among, moves_end}, proofs.Puts.found_where_sorted}

@@ -1,7 +1,9 @@
 -- What is planned of an event before its change.
-use Rattle.std.{specs.Prelude.{[], false, filter, if◌then◌else◌, not, true, ℕ, ◌++◌, ◌∷◌, ◌≡◌}}
+use Rattle.std.{specs.Prelude.{List, [], false, filter, if◌then◌else◌, not, true, ℕ, ◌++◌, ◌∷◌, ◌≡◌}}
 use Rattle.pim_types.{specs.{Keys.{is_star, source_key}, declared.config.IfaceId.IfaceId}}
-use Rattle.pim_wire.{specs.{RegisterParts.{registered_group, registered_source}, Values.JoinPrune}}
+use Rattle.pim_ip.{specs.declared.addr.Addr.Addr}
+use Rattle.igmp_wire.{specs.Values.Record}
+use Rattle.pim_wire.{specs.{declared.hello.Hello.Hello as HelloValue, RegisterParts.{registered_group, registered_source}, Values.JoinPrune}}
 use Rattle.pim_model.{specs.{declared.accepted.Accepted.Accepted, Downstream.{joined_keys, pruned_keys}, Full.{is_full, reported_groups, reported_sources}, State.State, Step.{change, rps_replaced}, Sets.is_kept_alive}}
 use Rattle.law_events.{specs.{JoinPrunes.moved_keys, Moved.{keys_by_routes, keys_by_rps}, Adjacent.keys_of_hello, Switched.{is_in_use, may_lead_over}}}
 use Rattle.pim_downstream.{specs.declared.named.Named.Named}
@@ -10,7 +12,7 @@ use Rattle.pim_querier.{specs.Reports.{all_keep_modes, moved_sources}}
 use Rattle.pim_state.{specs.declared.touched.Touched.Touched}
 use Rattle.pim_fanout.{specs.Contains.Contains}
 use Rattle.pim_rerouted.{specs.{Few.few_or_all, OtherRoutes.with_routes}}
-use Rattle.pim_plan.{specs.{Repeats.{is_assert_known, keys_of_packet, moved_asserts}, Rejoining.repeats, Tunnels.keys_of_stop, Acting.{HasKeys, HasRead, act_event}, declared.plan.{Plan.Plan, Planning.Planning}}}
+use Rattle.pim_plan.{specs.{Repeats.{is_assert_known, keys_of_packet, moved_asserts}, Rejoining.repeats, Renewing.all_renew, Tunnels.keys_of_stop, Acting.{HasKeys, HasRead, act_event}, declared.plan.{Plan.Plan, Planning.Planning}}}
 
 -- What an accepted event touches: the keys that it names, or that it moves. It touches none where it changes only when
 -- timers expire. An interface that goes up touches all, or none where nothing with facts may be routed over it, and one that
@@ -55,9 +57,22 @@ pub record IsAgain (s : State) (a : Accepted) (i : IfaceId) (holdtime : ℕ) (na
   pub keys : HasKeys (joined_keys s i.number message) (pruned_keys i.number message) named
   pub again : repeats s holdtime named.joined.items named.pruned.items ≡ true
 
+-- The event is a Hello of this neighbour, which it changes no more than when the neighbour expires.
+pub record IsRefreshing (s : State) (a : Accepted) (i : IfaceId) (from : Addr) (h : HelloValue) : Type 0 where
+  pub event : a ≡ Accepted.Hello i from h
+  pub refreshes : is_refreshed s.neighbours i.number from.bits h ≡ true
+
+-- The event is a report with these records, which changes no more than when the timers of its groups expire.
+pub record IsRenewing (s : State) (a : Accepted) (i : IfaceId) (records : List Record) : Type 0 where
+  pub event : a ≡ Accepted.Report i records
+  pub room : is_full s a ≡ false
+  pub renews : all_renew s i.number records ≡ true
+
 -- Without room there is no plan; an Advance has no plan of its own, and neither has what repeats what is known.
 abbrev pub IsPlanned : State → Accepted → Planning → Type 0
 IsPlanned s a (Planning.Time moment) = a ≡ Accepted.Advance moment
 IsPlanned s a Planning.Full = is_full s a ≡ true
 IsPlanned s a (Planning.Again i holdtime named) = IsAgain s a i holdtime named
+IsPlanned s a (Planning.Refreshed i from h) = IsRefreshing s a i from h
+IsPlanned s a (Planning.Renewed i records) = IsRenewing s a i records
 IsPlanned s a (Planning.Change plan) = Fits s a plan

@@ -6,6 +6,7 @@ pub mod act;
 mod again;
 mod joins;
 pub mod plan;
+mod reports;
 
 pub use act::{Act, Control};
 pub use plan::{Plan, Planning, planned};

@@ -22,6 +22,7 @@ use crate::again::{
     is_assert_known, is_direct, is_kept_alive, moved_asserts, moves_at_most_the_keepalive_end,
 };
 use crate::joins::repeats;
+use crate::reports::all_renew;
 use igmp_wire::{QueryView, ReportView};
 use pim_downstream::{Effect, Named};
 use pim_hello::keys_of_hello;
@@ -63,6 +64,18 @@ pub enum Planning<'a> {
         iface: IfaceId,
         holdtime: u16,
         named: Named,
+    },
+    /// The event is a Hello of the neighbour with the address `from`, which it changes no more than when the neighbour
+    /// expires.
+    Refreshed {
+        iface: IfaceId,
+        from: Addr,
+        hello: Hello,
+    },
+    /// The event is a report that changes no more than when the timers of its groups expire.
+    Renewed {
+        iface: IfaceId,
+        report: ReportView<'a>,
     },
     /// The event has a change of its own.
     Change(Plan<'a>),
@@ -119,8 +132,8 @@ fn only(alloc: Global, key: Key) -> Result<Series<Key>, AllocError>
     Ok(Series::from_vec(keys))
 }
 
-// Plans a Hello. One that changes only when its neighbour expires touches nothing. Any other touches what depends on
-// the neighbour, and what asks whether the router is the DR there, where that changes.
+// Plans a Hello. One that changes only when its neighbour expires touches nothing, and needs no room. Any other touches
+// what depends on the neighbour, and what asks whether the router is the DR there, where that changes.
 fn plan_hello<'a>(
     world: &World,
     turn: &Turn,
@@ -132,12 +145,11 @@ fn plan_hello<'a>(
     requires { IsAtRest world.now }
     ensures { IfOk result (λ planning. IsPlanned world.now (AcceptedValue.Hello iface from hello) planning) }
 {
+    if world.neighbours().is_refreshed(iface, from, &hello) {
+        return Ok(Planning::Refreshed { iface, from, hello });
+    }
     if pim_hello::is_full(world, iface, from, &hello) {
         return Ok(Planning::Full);
-    }
-    if world.neighbours().is_refreshed(iface, from, &hello) {
-        let act = Act::Control(Control::Hello { iface, from, hello });
-        return Ok(Planning::of_nothing(turn.alloc, act));
     }
     // For the proof: sources and registers are under keys of sources.
     world.proof_keyed();
@@ -250,8 +262,8 @@ fn plan_query<'a>(
     )
 }
 
-// Plans a report. One whose groups keep their modes touches the sources that it moves. Any other touches the groups and
-// the sources that it names.
+// Plans a report. One that changes only when the timers of its groups expire touches nothing. One whose groups keep their
+// modes touches the sources that it moves. Any other touches the groups and the sources that it names.
 fn plan_report<'a>(
     world: &World,
     turn: &Turn,
@@ -263,6 +275,9 @@ fn plan_report<'a>(
 {
     if pim_querier::is_full(world, turn.alloc, iface, &report)? {
         return Ok(Planning::Full);
+    }
+    if all_renew(world, iface, &report) {
+        return Ok(Planning::Renewed { iface, report });
     }
     if pim_querier::all_keep_modes(world, iface, &report) {
         let moved = pim_querier::moved_sources(world, turn.alloc, iface, &report)?;

@@ -7,7 +7,7 @@ use Rattle.pim_ip.{specs.declared.addr.Addr.Addr}
 use Rattle.pim_types.{specs.{declared.fact.{Key.Key, SendingRow.SendingRow, SourceRecordRow.SourceRecordRow}, Keys.{group_in, iface_in, is_of_group, is_on, same_key, source_in, source_key}}, proofs.Keys.{equal_keys, same_key_same}}
 use Rattle.pim_model.{specs.{Messages.Message, Querier.{exceeds, group_end, is_querier, lower_group, lower_sources, lowered, query_asked, query_end, query_group, query_sources, record_seen, robustness, send_sources, source_end, sources_sent}, Records.{AskGroup, AskSources, Asked, SourceState, Absent, Excluded, Included, GroupRecord, Member, apply_record, from_exclude, from_include, is_at_group, member_of, members_of, put_member, record_of, record_with, source_state_in, with_members, with_record, with_repeats_of_rows}, Sets.Set, State.State, Tables.{Table, drop_where, is_among, is_empty_list, put}}}
 use Rattle.law_settled.{specs.Laws.is_under_source, proofs.{ListLaws.{by_cond, each_both, each_filter, each_map, each_more}, RecordsKept.equal_forms, RowLaws.each_put, TurnLaws.kept_in_turn}}
-use Rattle.pim_querier.{specs.{Looking.{GrowsLate, ListsLate, is_late_among, source_keys}, Reports.members_named}, proofs.{LateSources.{is_late, late_members, late_rise}, NamedRecords.{gathered_knows, gone_of, is_member, members_among}, NamedSet.set_among, NamedSources.known, OneSource.AreSources, Reported.numbers_of_rows}}
+use Rattle.pim_querier.{specs.{Looking.{GrowsLate, ListsLate, is_late_among, source_keys}, Reports.known_members}, proofs.{LateSources.{is_late, late_members, late_rise}, NamedRecords.{gathered_knows, gone_of, is_member, members_among}, NamedSet.set_among, NamedSources.known, OneSource.AreSources, Reported.numbers_of_rows}}
 
 -- ---- nothing is listed
 
@@ -404,13 +404,13 @@ module _ (m : ℕ) where
 
       -- the listed members whose timers expire late are all that do
       pub listed_are_all : (rows : Table SourceRecordRow) (ns : List ℕ) → AreSources rows
-          → Rises (names (known i g rows)) → Rises (names (members_named i g rows ns))
+          → Rises (names (known i g rows)) → Rises (names (known_members i g rows ns))
           → ((n : ℕ) → is_among n ns ≡ is_among n listed) → ListsLate i m groups late rows
-          → late_members m (members_named i g rows ns) ≡ late_members m (known i g rows)
+          → late_members m (known_members i g rows ns) ≡ late_members m (known i g rows)
       listed_are_all rows ns under whole_rises rises same f =
-          same_members (late_members m (members_named i g rows ns)) (late_members m (known i g rows))
-          (late_rises (members_named i g rows ns) rises) (late_rises (known i g rows) whole_rises)
-          (λ src. late_states src (members_named i g rows ns) rises
+          same_members (late_members m (known_members i g rows ns)) (late_members m (known i g rows))
+          (late_rises (known_members i g rows ns) rises) (late_rises (known i g rows) whole_rises)
+          (λ src. late_states src (known_members i g rows ns) rises
           ∙ ap only_late (gathered_knows i g rows ns listed under same src)
           ∙ by_listed (is_among src listed) (source_state_among (known i g rows) src) (late_listed src rows f)
           ∙ sym (late_states src (known i g rows) whole_rises))
@@ -534,7 +534,7 @@ pub listed_past_are : (s : State) (i g end moment : ℕ) (groups : List Addr) (l
     (filter (λ e. is_at_group i g e.0) s.source_records))
     → bits_of found ≡ map source_in (filter (is_at_group i g) late)
     → ((n : ℕ) → is_named_source n set ≡ is_named_source n found)
-    → es ≡ members_named i g s.source_records (bits_of set) → IsAscending es
+    → es ≡ known_members i g s.source_records (bits_of set) → IsAscending es
     → late_members moment es ≡ late_members moment (record_of s i g).members
 unfolding record_of
 listed_past_are s i g end moment groups late found set es listed f under rising are same members ascending =
@@ -543,7 +543,7 @@ listed_past_are s i g end moment groups late found set es listed f under rising 
     (bits_of set) under
     (Rises-from_sorted (map (λ (m : Member). m.0) (known i g s.source_records))
     (subst (IsStrictlySortedBy nat_cmp) (sym (numbers_of_rows (filter (λ e. is_at_group i g e.0) s.source_records))) rising))
-    (Rises-from_sorted (map (λ (m : Member). m.0) (members_named i g s.source_records (bits_of set))) (subst IsAscending members ascending))
+    (Rises-from_sorted (map (λ (m : Member). m.0) (known_members i g s.source_records (bits_of set))) (subst IsAscending members ascending))
     (λ n. set_among set found same n ∙ ap (is_among n) are)
     (subst (λ (m : ℕ). ListsLate i m groups late s.source_records)
     (eqb-true end moment (first_so (end == moment) (is_named_source g groups) listed)) f)

@@ -6,7 +6,7 @@ use Rattle.pim_types.{specs.{declared.fact.{GroupRecordRow.GroupRecordRow, Key.K
 use Rattle.pim_model.{specs.{Querier.group_end, Records.{Asked, SourceState, Absent, Excluded, Included, GroupRecord, Member, apply_record, source_state_in, is_at_group, is_no_record, is_running, put_member, record_of, with_members, with_record, with_repeats_of_rows}, State.State, Tables.{Table, drop_at, drop_where, is_among, is_empty_list, keys_in, put, row_at}}}
 use Rattle.pim_filters.{specs.{Asking.asked_in_order, Members.{IsAscending, member_entries}, Rules.{asks_group, asks_sources, source_state_after, is_asked, timer_after}, declared.member.Member.Member as CodeMember}, proofs.{Applying.{all_of, applied, asked_are, entries_are, queries_after}, Merging.source_state_among, Orders.{Rises, Rises-ascending, Rises-from_sorted, is_among-ascending, same_rising, sorted_from_Rises}}}
 use Rattle.law_settled.{proofs.TableLaws.any_in_filter}
-use Rattle.pim_querier.{specs.{Changes.beside, Reports.{asks_named, keeps_others, members_named}}, proofs.{OneSource.AreSources, NamedSet.bits_rise, NamedSources.{known, known_row, made, row_of, same_written}, Reported.numbers_of_rows}}
+use Rattle.pim_querier.{specs.{Changes.beside, Reports.{asks_named, keeps_others, known_members}}, proofs.{OneSource.AreSources, NamedSet.bits_rise, NamedSources.{known, known_row, made, row_of, same_written}, Reported.numbers_of_rows}}
 use Rattle.pim_tables.{proofs.RisingRows.{Up, up_of_sorted}}
 
 -- ---- a record of each source's state
@@ -400,7 +400,7 @@ module _ (s : State) (i g full : ℕ) (type : RecordType) (named : List ℕ) (fe
 
 module _ (i g : ℕ) (t : Table SourceRecordRow) where
   abbrev gathered : List ℕ → List Member
-  gathered ns = members_named i g t ns
+  gathered ns = known_members i g t ns
 
   abbrev source_state_of_row : Option SourceRecordRow → SourceState
   source_state_of_row o = option_map_or (λ (r : SourceRecordRow). option_map_or Included r.end Excluded) o Absent
@@ -472,7 +472,7 @@ module _ (i g : ℕ) (t : Table SourceRecordRow) where
 
 -- what a record of these sources says of each
 pub gathered_fares : (s : State) (i g : ℕ) (ns named : List ℕ) (few : GroupRecord) → AreSources s.source_records
-    → ((n : ℕ) → is_among n ns ≡ is_among n named) → few.members ≡ members_named i g s.source_records ns → (src : ℕ)
+    → ((n : ℕ) → is_among n ns ≡ is_among n named) → few.members ≡ known_members i g s.source_records ns → (src : ℕ)
     → source_state_in few src ≡ (if is_among src named then source_state_in (record_of s i g) src else Absent)
 unfolding source_state_in record_of
 gathered_fares s i g ns named few under same are src =
@@ -480,12 +480,12 @@ gathered_fares s i g ns named few under same are src =
 
 -- those that were gathered of a set rise
 pub gathered_rise : (i g : ℕ) (t : Table SourceRecordRow) (ms : List CodeMember) (left set : List Addr) → left ≡ []
-    → member_entries ms ++ members_named i g t (bits_of left) ≡ members_named i g t (bits_of set)
+    → member_entries ms ++ known_members i g t (bits_of left) ≡ known_members i g t (bits_of set)
     → IsStrictlySortedBy addr_cmp set → IsAscending (member_entries ms)
 gathered_rise i g t ms left set none so_far rise =
     subst IsAscending
     (sym (sym (append-nil (member_entries ms))
-    ∙ ap (λ (rest : List Addr). member_entries ms ++ members_named i g t (bits_of rest)) (sym none) ∙ so_far))
+    ∙ ap (λ (rest : List Addr). member_entries ms ++ known_members i g t (bits_of rest)) (sym none) ∙ so_far))
     (gathered_ascend i g t (bits_of set) (bits_rise set rise))
 
 -- what is said of a record that is made

@@ -19,17 +19,17 @@ asks_named RecordType.Block = true
 asks_named _ = false
 
 -- The record of a source of the group on the interface, if it has one.
-abbrev pub member_named : ℕ → ℕ → Table SourceRecordRow → ℕ → Option Member
-member_named i g t n =
+abbrev pub known_member : ℕ → ℕ → Table SourceRecordRow → ℕ → Option Member
+known_member i g t n =
     option_map (λ (r : SourceRecordRow). let m : Member = (n, r.end) in m) (row_at t (source_key i g n))
 
-abbrev pub members_named : ℕ → ℕ → Table SourceRecordRow → List ℕ → List Member
-members_named i g t ns = filter_map (member_named i g t) ns
+abbrev pub known_members : ℕ → ℕ → Table SourceRecordRow → List ℕ → List Member
+known_members i g t ns = filter_map (known_member i g t) ns
 
 -- what is known of the group, with those of its sources alone that are named
 unfoldable pub record_named : State → ℕ → ℕ → List ℕ → GroupRecord
 record_named s i g sources =
-    record { timer = group_end s i g; members = members_named i g s.source_records (ascending sources) }
+    record { timer = group_end s i g; members = known_members i g s.source_records (ascending sources) }
 
 -- ---- what a record asks for
 

@@ -8,7 +8,7 @@ ghost use Rattle.pim_model.specs.Tables.{is_among};
 ghost use Rattle.pim_querier.specs.Changes.{beside};
 ghost use Rattle.pim_querier.specs.Looking.{ListsLate};
 ghost use Rattle.igmp_wire.specs.Written.{bits_of};
-ghost use Rattle.pim_querier.specs.Reports.{AsksAlike, asks_named, keeps_others, member_named, members_named, record_named};
+ghost use Rattle.pim_querier.specs.Reports.{AsksAlike, asks_named, keeps_others, known_member, known_members, record_named};
 
 use crate::intervals::{exceeds, query_end};
 use crate::looked::Looked;
@@ -47,7 +47,7 @@ fn set_of(alloc: Global, sources: &[Addr]) -> Result<BTreeSet<Addr>, AllocError>
 // What the group's record says of the source, where it has it.
 fn member_of(world: &World, place: IfaceGroup, source: Addr) -> Option<Member>
     ensures { option_map member_entry result
-        ≡ member_named place.iface.number place.group.bits world.now.source_records source.bits }
+        ≡ known_member place.iface.number place.group.bits world.now.source_records source.bits }
 {
     let row = world
         .membership()
@@ -66,7 +66,7 @@ fn members_among(
     sources: &BTreeSet<Addr>,
 ) -> Result<Vec<Member>, AllocError>
     ensures members { IfOk result (λ members. member_entries members.items
-        ≡ members_named place.iface.number place.group.bits world.now.source_records (bits_of sources.now.keys)) }
+        ≡ known_members place.iface.number place.group.bits world.now.source_records (bits_of sources.now.keys)) }
     ensures ascending { IfOk result (λ members. IsAscending (member_entries members.items)) }
 {
     // For the proof: the sources rise.

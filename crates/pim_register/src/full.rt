@@ -4,7 +4,6 @@ ghost use Rattle.pim_wire.specs.RegisterParts.{registered_group, registered_sour
 ghost use Rattle.pim_model.specs.Full.{source_is_full};
 ghost use Rattle.pim_model.specs.Unicast.{is_rp};
 
-use crate::rendezvous::registered;
 use pim_ip::Ipv4View;
 use pim_state::{Meter, World};
 use pim_types::SourceGroup;
@@ -15,6 +14,17 @@ pub fn source_is_full(world: &World, name: SourceGroup) -> bool
     ensures { result ≡ source_is_full world.now name.group.bits name.source.bits }
 {
     world.passes_limit(1) && world.store().source(name.key()).is_none()
+}
+
+// The source whose packet a Register has.
+fn registered(register: &RegisterView<'_>) -> SourceGroup
+    ensures group { result.group.bits ≡ registered_group register.now }
+    ensures source { result.source.bits ≡ registered_source register.now }
+{
+    SourceGroup {
+        source: register.source(),
+        group: register.group(),
+    }
 }
 
 /// Whether the row that a Register may make passes it: at another router than the RP a Register makes none. The meter

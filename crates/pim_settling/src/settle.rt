@@ -3,6 +3,7 @@ ghost use Rattle.std.specs.Prelude.{◌≡◌, ◌++◌, ◌∷◌, [], IfOk, If
 ghost use Rattle.pim_fanout.specs.Named.{keys_of};
 ghost use Rattle.pim_ip.specs.declared.fault.Fault.{Fault};
 ghost use Rattle.pim_macros.specs.Sights.{IsSourceSight};
+ghost use Rattle.pim_register.specs.Settling.{registers_by};
 ghost use Rattle.pim_views.specs.After.{AreGathered, openings_in};
 ghost use Rattle.pim_settling.specs.Settling.{AreNamed, cleared_by, followed_by, settled_by};
 ghost use Rattle.pim_state.specs.Turns.{saying};
@@ -12,22 +13,7 @@ use pim_macros::{SourceSight, StarSight};
 use pim_state::{Meter, Turn, World};
 use pim_types::{Emission, Fault, Series, SourceGroup};
 use pim_views::{GroupAfter, GroupOpening, Opening, SourceAfter, SourceOpening};
-use std::alloc::AllocError;
-
-// Settles the registers, then clears the asserts and SPTbits that must go.
-#[tactic(auto, unfolding(crate::specs::Settling::cleared_by))]
-fn clear(
-    world: &mut World,
-    turn: &mut Turn,
-    meter: &mut Meter,
-    opening: &Opening,
-) -> Result<(), AllocError>
-    ensures state { OnOk result (world.new ≡ (cleared_by opening.now world.old).0) }
-    ensures messages { OnOk result (turn.new ≡ saying turn.old (cleared_by opening.now world.old).1) }
-{
-    pim_register::changed(world, meter, opening)?;
-    pim_asserts::clear(world, turn, meter, opening)
-}
+use std::alloc::{AllocError, Global};
 
 // The source as it was opened, with its sight.
 fn seen_alone(opened: SourceOpening, sight: &SourceSight) -> SourceAfter
@@ -69,20 +55,28 @@ fn follow_source(
     Ok(names)
 }
 
-// Whether there is no register to settle, and no assert or SPTbit that must go.
-#[tactic(auto, unfolding(crate::specs::Settling::cleared_by))]
-fn stay(world: &World, seen: &[GroupAfter]) -> bool
-    requires { AreGathered world.now seen.now }
-    ensures { IsTrue result → cleared_by (openings_in seen.now) world.now ≡ (world.now, []) }
+// Settles the registers. The opened groups are gathered once, and again only where a register wasn't settled.
+fn settle_groups(
+    world: &mut World,
+    alloc: Global,
+    meter: &mut Meter,
+    opening: &Opening,
+) -> Result<Vec<GroupAfter>, AllocError>
+    ensures state { OnOk result (world.new ≡ registers_by opening.now world.old) }
+    ensures opening { IfOk result (λ seen. openings_in seen.items ≡ opening.now) }
+    ensures seen { IfOk result (λ seen. AreGathered world.new seen.items) }
 {
-    if !pim_register::are_settled(world, seen) {
-        return false;
+    let groups = opening.groups();
+    let seen = GroupAfter::all_of(world, alloc, groups, meter)?;
+    if pim_register::are_settled(world, seen.as_slice()) {
+        return Ok(seen);
     }
-    pim_asserts::are_clear(world, seen)
+    pim_register::changed(world, meter, opening)?;
+    GroupAfter::all_of(world, alloc, groups, meter)
 }
 
-// Settles the registers, then clears what must go. The opened groups are gathered once, and again only where something
-// was settled or cleared.
+// Settles the registers, then clears the asserts and SPTbits that must go. Where none goes, what was gathered stands.
+#[tactic(auto, unfolding(crate::specs::Settling::cleared_by))]
 fn clear_groups(
     world: &mut World,
     turn: &mut Turn,
@@ -94,13 +88,12 @@ fn clear_groups(
     ensures opening { IfOk result (λ seen. openings_in seen.items ≡ opening.now) }
     ensures seen { IfOk result (λ seen. AreGathered world.new seen.items) }
 {
-    let groups = opening.groups();
-    let seen = GroupAfter::all_of(world, turn.alloc, groups, meter)?;
-    if stay(world, seen.as_slice()) {
+    let seen = settle_groups(world, turn.alloc, meter, opening)?;
+    if pim_asserts::are_clear(world, seen.as_slice()) {
         return Ok(seen);
     }
-    clear(world, turn, meter, opening)?;
-    GroupAfter::all_of(world, turn.alloc, groups, meter)
+    pim_asserts::clear(world, turn, meter, opening)?;
+    GroupAfter::all_of(world, turn.alloc, opening.groups(), meter)
 }
 
 // Does what follows where any groups were opened. Which sources are named, and what is sent upstream, is decided by what

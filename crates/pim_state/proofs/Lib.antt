@@ -1,5 +1,6 @@
 pub mod Accepted
 mod Elected
+mod Refreshed
 pub mod FirstFound
 pub mod Gathered
 pub mod Gathering

@@ -1,8 +1,9 @@
 //! What neighbours decide, and what a Hello changes (RFC 7761, section 4.3).
-ghost use Rattle.std.specs.Prelude.{◌≡◌, ◌<◌, ◌≤◌, ◌^◌, OnOk};
+ghost use Rattle.std.specs.Prelude.{◌≡◌, ◌<◌, ◌≤◌, ◌^◌, OnOk, true};
 ghost use Rattle.pim_model.specs.Downstream.{prune_pending_end};
 ghost use Rattle.pim_model.specs.Hellos.{hellos_triggered, neighbour_replaced};
 ghost use Rattle.pim_model.specs.Neighbours.{is_dr, t_override};
+ghost use Rattle.pim_neighbours.specs.Refreshed.{is_refreshed};
 ghost use Rattle.pim_state.specs.Shown.{Shows};
 ghost use Rattle.pim_model.specs.State.{my_address, my_override_interval, my_priority, my_propagation_delay};
 
@@ -75,6 +76,24 @@ impl World {
         self.interfaces.owe_hello(iface, end)
     }
 
+    // Sets when the neighbour expires, of which its Hello says nothing else. No election is held.
+    #[tactic(auto, unfolding(pim_model::specs::Hellos::neighbour_replaced))]
+    fn refresh_neighbour(
+        &mut self,
+        iface: IfaceId,
+        from: Addr,
+        hello: &Hello,
+    ) -> Result<(), AllocError>
+        requires { is_refreshed self.old.neighbours iface.number from.bits hello.now ≡ true }
+        ensures { OnOk result (self.new ≡ neighbour_replaced self.old iface.number from.bits hello.now) }
+    {
+        // For the proof: the keys of neighbours rise.
+        let _ = self.neighbours.len();
+        self.next = None;
+        self.neighbours.hello(iface, from, hello, self.present)?;
+        Ok(())
+    }
+
     /// Keeps the neighbour as its Hello says, or drops it where the holdtime is 0.
     #[tactic(auto, unfolding(pim_model::specs::Hellos::neighbour_replaced))]
     pub fn replace_neighbour(
@@ -85,6 +104,9 @@ impl World {
     ) -> Result<(), AllocError>
         ensures { OnOk result (self.new ≡ neighbour_replaced self.old iface.number from.bits hello.now) }
     {
+        if self.neighbours.is_refreshed(iface, from, hello) {
+            return self.refresh_neighbour(iface, from, hello);
+        }
         let own = self.own(iface);
         self.next = None;
         self.neighbours.hello(iface, from, hello, self.present)?;

@@ -8,16 +8,16 @@ use Rattle.pim_views.{specs.{Covers.{Covers, IsWithin, NewAreNamed}, Openings.op
 use Rattle.pim_upstream.{specs.Told.upstream_by}
 
 -- The messages upstream by the groups of some keys are those by what the keys opened.
-abbrev pub OwnIsOpened : Type 0
-OwnIsOpened = (keys : List Key) (o a : State) (w : ℕ) → NewAreNamed keys o a
+abbrev pub UpstreamOfKeysByOpening : Type 0
+UpstreamOfKeysByOpening = (keys : List Key) (o a : State) (w : ℕ) → NewAreNamed keys o a
     → own_upstream keys o a w ≡ upstream_by (opening_of o (Touched.Keys keys)) a w
 
 -- Where all is touched, the messages upstream are those by what was opened.
-abbrev pub AllIsOpened : Type 0
-AllIsOpened =
+abbrev pub UpstreamOfAllByOpening : Type 0
+UpstreamOfAllByOpening =
     (o a : State) (w : ℕ) → IsWithin o a → upstream o a w ≡ upstream_by (opening_of o Touched.All) a w
 
 -- whatever is touched
-abbrev pub UpstreamIsOpened : Type 0
-UpstreamIsOpened = (touched : Touched) (o a : State) (w : ℕ) → Covers touched o a
+abbrev pub UpstreamByOpening : Type 0
+UpstreamByOpening = (touched : Touched) (o a : State) (w : ℕ) → Covers touched o a
     → upstream o a w ≡ upstream_by (opening_of o touched) a w

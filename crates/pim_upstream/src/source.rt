@@ -81,7 +81,7 @@ fn stay(
 /// Sends what follows of the views of a source before and after a change, and returns what becomes of the Join timer of
 /// (S,G).
 #[tactic(auto, unfolding(pim_model::specs::Upstream::source_told, pim_rpt::specs::Changes::change_of))]
-pub(crate) fn tell(
+pub(crate) fn send_change(
     world: &World,
     turn: &mut Turn,
     name: SourceGroup,

@@ -121,7 +121,7 @@ fn cease(
 
 /// Sends what follows of the views of a group before and after a change, and returns what becomes of its Join timer.
 #[tactic(auto, unfolding(pim_model::specs::Upstream::star_told, pim_rpt::specs::Changes::change_of))]
-pub(crate) fn tell(
+pub(crate) fn send_change(
     world: &World,
     turn: &mut Turn,
     meter: &mut Meter,

@@ -21,7 +21,7 @@ use std::alloc::AllocError;
 
 // Sends the messages of a source by its sight, and notes what becomes of its timers.
 #[tactic(auto, unfolding(crate::specs::Told::source_moved))]
-fn tell_views(
+fn send_by_views(
     world: &World,
     turn: &mut Turn,
     sight: &SourceSight,
@@ -41,14 +41,14 @@ fn tell_views(
         group: sight.star.group,
     };
     let new = sight.view();
-    let joins = source::tell(world, turn, name, old, new)?;
+    let joins = source::send_change(world, turn, name, old, new)?;
     let prunes = pim_rpt::changed(world, turn, &sight.star, name.source, old, new)?;
     note_join(moves, name.group, Some(name.source), joins)?;
     note_override(moves, name, prunes)
 }
 
 // Whether a source of the group may have messages: it has a fact, before or after the change.
-fn is_told(world: &World, meter: &mut Meter, group: Addr, before: SourceOpening) -> bool
+fn may_send(world: &World, meter: &mut Meter, group: Addr, before: SourceOpening) -> bool
     ensures { result ≡ (before.has_facts || has_facts world.now group.bits before.source.bits) }
 {
     let source = before.source;
@@ -57,7 +57,7 @@ fn is_told(world: &World, meter: &mut Meter, group: Addr, before: SourceOpening)
 
 // Sends the messages of a source that has facts, before or after the change; its sight is that after the change.
 #[tactic(auto, unfolding(crate::specs::Told::source_step))]
-fn tell_source_by_sight(
+fn send_for_source(
     world: &World,
     turn: &mut Turn,
     meter: &mut Meter,
@@ -72,14 +72,14 @@ fn tell_source_by_sight(
     ensures messages { OnOk result ((s : State) → turn.new ≡ saying turn.old
         (source_step world.now turn.old.draw sight.now.star.group.bits (after_moves s moves.old.items) before).1) }
 {
-    if is_told(world, meter, sight.star.group, before) {
-        return tell_views(world, turn, sight, before.view, moves);
+    if may_send(world, meter, sight.star.group, before) {
+        return send_by_views(world, turn, sight, before.view, moves);
     }
     Ok(())
 }
 
 // Sends the messages of (*,G) by its sight, and notes what becomes of its Join timer.
-fn tell_star(
+fn send_for_star(
     world: &World,
     turn: &mut Turn,
     meter: &mut Meter,
@@ -95,7 +95,7 @@ fn tell_star(
         (star_changed world.now turn.old.draw star.now.group.bits old).messages) }
 {
     let new = star.view();
-    let change = star::tell(world, turn, meter, star, old, new)?;
+    let change = star::send_change(world, turn, meter, star, old, new)?;
     note_join(moves, star.group, None, change)
 }
 
@@ -119,13 +119,13 @@ pub fn changed_alone(
         ≡ saying turn.old (upstream_by (group.now ∷ []) world.old turn.old.draw).1) }
 {
     let mut moves = Vec::new(turn.alloc);
-    tell_star(world, turn, meter, &sight.star, group.star, &mut moves)?;
-    tell_source_by_sight(world, turn, meter, sight, opened, &mut moves)?;
+    send_for_star(world, turn, meter, &sight.star, group.star, &mut moves)?;
+    send_for_source(world, turn, meter, sight, opened, &mut moves)?;
     move_timers(world, meter, moves.as_slice())
 }
 
 // Sends the messages of these sources of a group by their sights, one after the other.
-fn tell_sources(
+fn send_for_sources(
     world: &World,
     turn: &mut Turn,
     meter: &mut Meter,
@@ -142,14 +142,14 @@ fn tell_sources(
         (after_moves s moves.old.items) (map opened_in sources.now)).1) }
 {
     for after in sources {
-        tell_source_by_sight(world, turn, meter, &after.sight, after.opened, moves)?;
+        send_for_source(world, turn, meter, &after.sight, after.opened, moves)?;
     }
     Ok(())
 }
 
 // Sends the messages of a group and of its sources, and notes what becomes of their timers.
 #[tactic(auto, unfolding(crate::specs::Told::group_step))]
-fn tell_group(
+fn send_for_group(
     world: &World,
     turn: &mut Turn,
     meter: &mut Meter,
@@ -162,8 +162,8 @@ fn tell_group(
     ensures messages { OnOk result ((s : State) → turn.new ≡ saying turn.old
         (group_step world.now turn.old.draw (after_moves s moves.old.items) (opening_in after.now)).1) }
 {
-    tell_star(world, turn, meter, &after.star, after.was, moves)?;
-    tell_sources(
+    send_for_star(world, turn, meter, &after.star, after.was, moves)?;
+    send_for_sources(
         world,
         turn,
         meter,
@@ -174,7 +174,7 @@ fn tell_group(
 }
 
 // Sends the messages of these groups, one after the other, and notes what becomes of their timers.
-fn tell_groups(
+fn send_for_groups(
     world: &World,
     turn: &mut Turn,
     meter: &mut Meter,
@@ -190,7 +190,7 @@ fn tell_groups(
         (after_moves s moves.old.items) (openings_in seen.now)).1) }
 {
     for after in seen {
-        tell_group(world, turn, meter, after, moves)?;
+        send_for_group(world, turn, meter, after, moves)?;
     }
     Ok(())
 }
@@ -211,6 +211,6 @@ pub fn changed(
         ≡ saying turn.old (upstream_by (openings_in seen.now) world.old turn.old.draw).1) }
 {
     let mut moves = Vec::new(turn.alloc);
-    tell_groups(world, turn, meter, seen, &mut moves)?;
+    send_for_groups(world, turn, meter, seen, &mut moves)?;
     move_timers(world, meter, moves.as_slice())
 }

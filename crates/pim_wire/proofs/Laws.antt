@@ -2,7 +2,7 @@
 use Rattle.std.{proofs.{Common.{◌≡◌, ℕ, ◌+◌, ◌%◌, ◌^◌, ◌<◌, ◌≤◌, Bool, true, false, cond, nat_le, nat_lt, ◌||◌, List, [], ◌∷◌, ◌++◌, length, take, Result, Ok, Err, refl, sym, ◌∙◌, arith, lit≤}, lemmas.Bool.Decides.nat_tests}}
 use Rattle.byteorder.{specs.{Endian.{big_from, big_bytes}, Numbers.big_number-reads_back}}
 use Rattle.pim_ip.{specs.{Checksum.{sum16, with_checksum}, Ipv4.{Packet, ipv4_reading, packet_of, is_unicast, is_multicast, first_multicast, protocol_pim}, declared.refusal.Refusal.Refusal, Tests.◌>>◌, Addr.addr}, proofs.ChecksumLemmas.sum16-with_checksum}
-use Rattle.pim_wire.{specs.{declared.view.PimView.TheVariants.{Register, RegisterStop, Assert}, Values.{Encapsulated, Null}, Encoded.{pim_version_of, pim_type_of, address_at, unicast_at, unicast_test, source_test, group_test, unicast_text, group_text, pim_text}, Asserts.{assert_text, assert_test, assert_of}, Hellos.{hello_text, hello_test, hello_of, options_test, is_option_length, with_options, with_option, lan_delay_at}, Registers.{register_text, inner_test, register_test, register_of, null_inner_test, dummy_text, null_register_text, register_stop_text, register_stop_test, register_stop_of}, Messages.{is_checksum_right, body_reading, pim_reading}, ReadsBack.HelloReads}, proofs.Inner.inner_right}
+use Rattle.pim_wire.{specs.{declared.view.PimView.TheVariants.{Register, RegisterStop, Assert}, Values.{Encapsulated, Null}, Encoded.{pim_version_of, pim_type_of, address_at, unicast_at, unicast_test, source_test, group_test, unicast_text, group_text, pim_text}, Asserts.{assert_text, assert_test, assert_of}, Hellos.{hello_text, hello_test, hello_of, option_test, options_test, is_option_length, with_options, with_option, lan_delay_at}, Registers.{register_text, inner_test, register_test, register_of, null_inner_test, dummy_text, null_register_text, register_stop_text, register_stop_test, register_stop_of}, Messages.{is_checksum_right, body_reading, pim_reading}, ReadsBack.HelloReads}, proofs.Inner.inner_right}
 
 -- past the tests of the header
 pub pim_reads : (b : List ℕ) (type : ℕ) → 8 ≤ length b → pim_version_of b ≡ 2 → pim_type_of b ≡ type → is_checksum_right b ≡ true
@@ -140,7 +140,7 @@ module _ (propagation_delay override_interval priority generation : ℕ) (delay_
   hello-generation = big_number-reads_back 4 generation [] generation_fits
 
   hello-test : hello_test hello ≡ Ok tt
-  unfolding hello_test options_test is_option_length hello_text pim_text with_checksum
+  unfolding hello_test options_test option_test is_option_length hello_text pim_text with_checksum
   hello-test = refl
 
   pub hello_reads : HelloReads propagation_delay override_interval priority generation

@@ -1,7 +1,7 @@
 -- The options of a Hello one after the other.
 use Rattle.std.{proofs.{Common.{◌≡◌, ℕ, zero, suc, ◌+◌, ◌-◌, ◌<◌, ◌≤◌, List, length, Result, Ok, Err, refl, sym, ap, ◌∙◌, arith, inl, inr}, lemmas.Bool.{cases_lt, Decides.nat_tests}}}
 use Rattle.pim_ip.{specs.{declared.refusal.Refusal.Refusal, Tests.◌>>◌}}
-use Rattle.pim_wire.{specs.{declared.hello.Hello.Hello, Bodies.hello_reading, Hellos.{option_length, options_test, with_option, with_options, no_options, hello_test, hello_of}, HelloOptions.option_test}}
+use Rattle.pim_wire.{specs.{declared.hello.Hello.Hello, Bodies.hello_reading, Hellos.{option_length, options_test, with_option, with_options, no_options, hello_test, hello_of, option_test}}}
 
 -- the place after the option at place p
 abbrev pub after_option : List ℕ → ℕ → ℕ

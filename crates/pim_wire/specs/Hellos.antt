@@ -33,21 +33,21 @@ unfoldable pub is_option_length : ℕ → ℕ → Bool
 is_option_length type len =
     if type == holdtime_option then len == 2
     else (if (type == lan_delay_option) || (type == priority_option) || (type == generation_option) then len == 4
-    else (len == len))
+    else true)
+
+-- the tests of the option at place p
+unfoldable pub option_test : List ℕ → ℕ → Result (Unit {0}) Refusal
+option_test b p =
+    field_test b p 4
+    >> expect (is_option_length (option_type b p) (option_length b p)) BadLength
+    >> field_test b (p + 4) (option_length b p)
 
 -- The tests of the options from place p on; there are at most `most` of them.
 unfoldable pub options_test : List ℕ → ℕ → ℕ → Result (Unit {0}) Refusal
 options_test b p zero = Ok tt
 options_test b p (suc most) =
     let later : Result (Unit {0}) Refusal = options_test b (p + 4 + option_length b p) most in
-    elim (nat_le (length b) p) [
-      | true ↦ Ok tt
-      | false ↦
-          field_test b p 4
-          >> expect (is_option_length (option_type b p) (option_length b p)) BadLength
-          >> field_test b (p + 4) (option_length b p)
-          >> later
-    ]
+    elim (nat_le (length b) p) [ true ↦ Ok tt | false ↦ option_test b p >> later ]
 
 unfoldable pub lan_delay_at : List ℕ → ℕ → LanDelay
 lan_delay_at b p = record {

@@ -2,7 +2,6 @@ pub mod Asserts
 pub mod Bodies
 pub mod Encoded
 pub mod Groups
-pub mod HelloOptions
 pub mod Hellos
 pub mod JoinPruneTexts
 pub mod JoinPrunes

@@ -1,9 +1,8 @@
 //! Hellos, read and written.
 ghost use Rattle.std.specs.Prelude.{◌≡◌, ◌+◌, ◌≤◌, true, ◌++◌, length, OnOk, OnErr};
 ghost use Rattle.pim_wire.specs.Bodies.{hello_reading};
-ghost use Rattle.pim_wire.specs.Hellos.{option_type, option_length, is_option_length, lan_delay_at, with_option, hello_text, option_text, lan_delay_option};
+ghost use Rattle.pim_wire.specs.Hellos.{option_type, option_length, is_option_length, option_test, lan_delay_at, with_option, hello_text, option_text, lan_delay_option};
 ghost use Rattle.byteorder.specs.Endian.{big_bytes};
-ghost use Rattle.pim_wire.specs.HelloOptions.{option_test};
 ghost use Rattle.pim_wire.specs.ReadsBack.{HelloReads};
 
 use crate::encoded::{CHECKSUM_PLACE, VERSION_BITS, check_field, u16_at, u32_at};
@@ -61,7 +60,7 @@ fn option_length(bytes: &[u8], place: usize) -> usize
 }
 
 /// Whether there is an option at a place.
-#[tactic(auto, unfolding(crate::specs::HelloOptions::option_test))]
+#[tactic(auto, unfolding(crate::specs::Hellos::option_test))]
 fn check_option(bytes: &[u8], place: usize) -> Result<(), Refusal>
     requires { place ≤ length bytes.now }
     ensures value { result ≡ option_test bytes.now place }

@@ -25,7 +25,12 @@ impl Refills<Membership> for QuerierRow {
     ghost next = { λ t e rows. refl };
 
     #[tactic(auto, unfolding(pim_model::specs::Tables::set_row))]
-    fn put(self, key: Key, into: &mut Membership, _meter: &mut Meter) -> Result<bool, AllocError> {
+    fn put_if_fits(
+        self,
+        key: Key,
+        into: &mut Membership,
+        _meter: &mut Meter,
+    ) -> Result<bool, AllocError> {
         if key.rpt || key.source.is_some() || key.group.bits != 0 || self.robustness > 7 {
             return Ok(false);
         }
@@ -44,7 +49,12 @@ impl Refills<Membership> for GroupRecordRow {
     ghost next = { λ t e rows. refl };
 
     #[tactic(auto, unfolding(pim_model::specs::Tables::set_row))]
-    fn put(self, key: Key, into: &mut Membership, meter: &mut Meter) -> Result<bool, AllocError> {
+    fn put_if_fits(
+        self,
+        key: Key,
+        into: &mut Membership,
+        meter: &mut Meter,
+    ) -> Result<bool, AllocError> {
         if key.rpt || key.source.is_some() || key.iface.number >= 120 {
             return Ok(false);
         }
@@ -63,7 +73,12 @@ impl Refills<Membership> for SourceRecordRow {
     ghost next = { λ t e rows. refl };
 
     #[tactic(auto, unfolding(pim_model::specs::Tables::set_row))]
-    fn put(self, key: Key, into: &mut Membership, meter: &mut Meter) -> Result<bool, AllocError> {
+    fn put_if_fits(
+        self,
+        key: Key,
+        into: &mut Membership,
+        meter: &mut Meter,
+    ) -> Result<bool, AllocError> {
         if key.rpt || key.source.is_none() || key.iface.number >= 120 {
             return Ok(false);
         }
@@ -82,7 +97,12 @@ impl Refills<Membership> for GroupRepeatRow {
     ghost next = { λ t e rows. refl };
 
     #[tactic(auto, unfolding(pim_model::specs::Tables::set_row))]
-    fn put(self, key: Key, into: &mut Membership, _meter: &mut Meter) -> Result<bool, AllocError> {
+    fn put_if_fits(
+        self,
+        key: Key,
+        into: &mut Membership,
+        _meter: &mut Meter,
+    ) -> Result<bool, AllocError> {
         if key.rpt || key.source.is_some() {
             return Ok(false);
         }
@@ -101,7 +121,12 @@ impl Refills<Membership> for SourceRepeatRow {
     ghost next = { λ t e rows. refl };
 
     #[tactic(auto, unfolding(pim_model::specs::Tables::set_row))]
-    fn put(self, key: Key, into: &mut Membership, _meter: &mut Meter) -> Result<bool, AllocError> {
+    fn put_if_fits(
+        self,
+        key: Key,
+        into: &mut Membership,
+        _meter: &mut Meter,
+    ) -> Result<bool, AllocError> {
         if key.rpt || key.source.is_some() {
             return Ok(false);
         }
@@ -120,7 +145,12 @@ impl Refills<Membership> for SendingRow {
     ghost next = { λ t e rows. refl };
 
     #[tactic(auto, unfolding(pim_model::specs::Tables::set_row))]
-    fn put(self, key: Key, into: &mut Membership, _meter: &mut Meter) -> Result<bool, AllocError> {
+    fn put_if_fits(
+        self,
+        key: Key,
+        into: &mut Membership,
+        _meter: &mut Meter,
+    ) -> Result<bool, AllocError> {
         if key.rpt || key.source.is_none() {
             return Ok(false);
         }

@@ -24,7 +24,7 @@ pub(crate) trait Refills<T>: Copy {
     ghost next: { (t : T) (e : Key × Self) (rows : Table Self) → refill (refill t (e ∷ [])) rows ≡ refill t (e ∷ rows) };
 
     /// Puts the row; or answers no where it can't be held.
-    fn put(self, key: Key, into: &mut T, meter: &mut Meter) -> Result<bool, AllocError>
+    fn put_if_fits(self, key: Key, into: &mut T, meter: &mut Meter) -> Result<bool, AllocError>
         ensures test { IfOk result (λ held. held ≡ fits (key, self)) }
         ensures put { IfOk result (λ held. IsTrue held → into.new ≡ refill into.old ((key, self) ∷ [])) };
 }
@@ -39,7 +39,7 @@ pub(crate) fn put_rows<T, R: Refills<T>>(
     ensures put { IfOk result (λ held. IsTrue held → into.new ≡ R.refill into.old rows.now) }
 {
     for row in rows {
-        if !row.1.put(row.0, into, meter)? {
+        if !row.1.put_if_fits(row.0, into, meter)? {
             return Ok(false);
         }
     }

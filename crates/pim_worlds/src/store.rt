@@ -25,7 +25,12 @@ impl Refills<Store> for DownstreamRow {
     ghost next = { λ t e rows. refl };
 
     #[tactic(auto, unfolding(pim_model::specs::Tables::set_row))]
-    fn put(self, key: Key, into: &mut Store, meter: &mut Meter) -> Result<bool, AllocError> {
+    fn put_if_fits(
+        self,
+        key: Key,
+        into: &mut Store,
+        meter: &mut Meter,
+    ) -> Result<bool, AllocError> {
         if key.iface.number >= 120 {
             return Ok(false);
         }
@@ -44,7 +49,12 @@ impl Refills<Store> for AssertRow {
     ghost next = { λ t e rows. refl };
 
     #[tactic(auto, unfolding(pim_model::specs::Tables::set_row))]
-    fn put(self, key: Key, into: &mut Store, meter: &mut Meter) -> Result<bool, AllocError> {
+    fn put_if_fits(
+        self,
+        key: Key,
+        into: &mut Store,
+        meter: &mut Meter,
+    ) -> Result<bool, AllocError> {
         if key.rpt || key.iface.number >= 120 {
             return Ok(false);
         }
@@ -63,7 +73,12 @@ impl Refills<Store> for JoinTimerRow {
     ghost next = { λ t e rows. refl };
 
     #[tactic(auto, unfolding(pim_model::specs::Tables::set_row))]
-    fn put(self, key: Key, into: &mut Store, meter: &mut Meter) -> Result<bool, AllocError> {
+    fn put_if_fits(
+        self,
+        key: Key,
+        into: &mut Store,
+        meter: &mut Meter,
+    ) -> Result<bool, AllocError> {
         if key.rpt || key.iface.number != 0 {
             return Ok(false);
         }
@@ -82,7 +97,12 @@ impl Refills<Store> for OverrideTimerRow {
     ghost next = { λ t e rows. refl };
 
     #[tactic(auto, unfolding(pim_model::specs::Tables::set_row))]
-    fn put(self, key: Key, into: &mut Store, meter: &mut Meter) -> Result<bool, AllocError> {
+    fn put_if_fits(
+        self,
+        key: Key,
+        into: &mut Store,
+        meter: &mut Meter,
+    ) -> Result<bool, AllocError> {
         if !key.rpt || key.iface.number != 0 || key.source.is_none() {
             return Ok(false);
         }
@@ -101,7 +121,12 @@ impl Refills<Store> for SourceRow {
     ghost next = { λ t e rows. refl };
 
     #[tactic(auto, unfolding(pim_model::specs::Tables::set_row))]
-    fn put(self, key: Key, into: &mut Store, meter: &mut Meter) -> Result<bool, AllocError> {
+    fn put_if_fits(
+        self,
+        key: Key,
+        into: &mut Store,
+        meter: &mut Meter,
+    ) -> Result<bool, AllocError> {
         if key.rpt || key.iface.number != 0 || key.source.is_none() {
             return Ok(false);
         }
@@ -120,7 +145,12 @@ impl Refills<Store> for RegisterRow {
     ghost next = { λ t e rows. refl };
 
     #[tactic(auto, unfolding(pim_model::specs::Tables::set_row))]
-    fn put(self, key: Key, into: &mut Store, meter: &mut Meter) -> Result<bool, AllocError> {
+    fn put_if_fits(
+        self,
+        key: Key,
+        into: &mut Store,
+        meter: &mut Meter,
+    ) -> Result<bool, AllocError> {
         if key.rpt || key.iface.number != 0 || key.source.is_none() {
             return Ok(false);
         }

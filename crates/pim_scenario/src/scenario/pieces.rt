@@ -25,12 +25,12 @@ pub(super) fn scenario_in(alloc: Global, text: &str) -> Result<Scenario, Unread>
     let table = document(alloc, front)?;
     field::only(&table, &["router"])?;
     let routers = router::routers_in(alloc, field::list_or_empty(&table, "router")?)?;
-    let moves = moves_in(alloc, back, routers.as_slice())?;
+    let moves = read_moves_alone(alloc, back, routers.as_slice())?;
     Ok(Scenario { routers, moves })
 }
 
 /// The moves of a text that has nothing else.
-fn moves_in(
+fn read_moves_alone(
     alloc: Global,
     text: &str,
     routers: &[RouterText],

@@ -147,7 +147,7 @@ impl Rendezvous for Router {
 
     ghost local_keys = { λ r. keys_named (r.source ∷ []) };
 
-    fn present(&self) -> u64 {
+    fn present_moment(&self) -> u64 {
         self.present
     }
 
@@ -184,32 +184,31 @@ fn router_at(present: u64) -> Router {
     }
 }
 
-fn set_of(alloc: Global, shared: Addr, own: Addr, others: &[Addr]) -> Result<RpSet, AllocError> {
-    let mut listed = Series::new(alloc);
-    for other in others {
-        listed.push(*other)?;
+// A set with a shared address, an own one, and others.
+fn set_of(alloc: Global, given: (Addr, Addr, &[Addr])) -> Result<RpSet, AllocError> {
+    let (shared, own, listed) = given;
+    let mut others = Series::new(alloc);
+    for other in listed {
+        others.push(*other)?;
     }
     Ok(RpSet {
         shared,
         own,
-        others: listed,
+        others,
     })
 }
 
-fn one_set(
-    alloc: Global,
-    shared: Addr,
-    own: Addr,
-    others: &[Addr],
-) -> Result<Vec<RpSet>, AllocError> {
+fn sets_of(alloc: Global, given: &[(Addr, Addr, &[Addr])]) -> Result<Vec<RpSet>, AllocError> {
     let mut sets = Vec::new(alloc);
-    sets.push(set_of(alloc, shared, own, others)?)?;
+    for set in given {
+        sets.push(set_of(alloc, *set)?)?;
+    }
     Ok(sets)
 }
 
 // The front of the first router, whose set has these others.
 fn front_with(alloc: Global, others: &[Addr]) -> Result<Anycast, AllocError> {
-    let sets = one_set(alloc, SHARED, FIRST, others)?;
+    let sets = sets_of(alloc, &[(SHARED, FIRST, others)])?;
     match Anycast::of(&Own, sets) {
         Ok(front) => Ok(front),
         Err(_) => Ok(Anycast::new(alloc)),
@@ -238,8 +237,13 @@ fn has_sent(rt: &impl Abort, sent: &[Emission], second: &[u8], third: &[u8]) {
     assert!(rt; is_sent(sent, 1, THIRD, third));
 }
 
-fn has_sent_none(rt: &impl Abort, sent: &[Emission]) {
-    assert!(rt; sent.is_empty());
+// The source is announced to the second of the set and to the third, or isn't.
+fn announces(rt: &impl Abort, sent: &[Emission], is_due: bool) {
+    if is_due {
+        has_sent(rt, sent, ANNOUNCED_TO_SECOND, ANNOUNCED_TO_THIRD);
+    } else {
+        assert!(rt; sent.is_empty());
+    }
 }
 
 fn is_copied(rt: &impl Abort, told: &Passed) {
@@ -280,21 +284,20 @@ fn a_copy_counts_as_a_register_to_the_shared_address(rt: HostRuntime) -> Result<
 fn other_packets_pass_as_they_came(rt: HostRuntime) -> Result<(), Fail> {
     let alloc = rt.alloc();
     let front = front_with(alloc, &[SECOND, THIRD])?;
-    passes(&rt, alloc, &front, WITH_TTL_ONE)?;
-    passes(&rt, alloc, &front, OF_OTHER_GROUP)?;
-    passes(&rt, alloc, &front, FROM_STRANGER)?;
-    passes(&rt, alloc, &front, SECOND_TO_SHARED)?;
-    passes(&rt, alloc, &front, SECOND_TO_LINK)?;
-    passes(&rt, alloc, &front, STOP)?;
+    for bytes in [WITH_TTL_ONE, OF_OTHER_GROUP, FROM_STRANGER] {
+        passes(&rt, alloc, &front, bytes)?;
+    }
+    for bytes in [SECOND_TO_SHARED, SECOND_TO_LINK, STOP] {
+        passes(&rt, alloc, &front, bytes)?;
+    }
     Ok(())
 }
 
 // The second knows the first, and the first doesn't know the second.
 #[test]
 fn a_copy_of_a_router_that_isnt_known_passes(rt: HostRuntime) -> Result<(), Fail> {
-    let alloc = rt.alloc();
-    let front = front_with(alloc, &[THIRD])?;
-    passes(&rt, alloc, &front, FROM_SECOND)?;
+    let front = front_with(rt.alloc(), &[THIRD])?;
+    passes(&rt, rt.alloc(), &front, FROM_SECOND)?;
     Ok(())
 }
 
@@ -330,43 +333,41 @@ fn a_register_with_a_wrong_checksum_passes(rt: HostRuntime) -> Result<(), Fail> 
     Ok(())
 }
 
-fn is_refused(rt: &impl Abort, sets: Vec<RpSet>) {
-    assert!(rt; Anycast::of(&Own, sets).is_err());
+fn are_accepted(alloc: Global, given: &[(Addr, Addr, &[Addr])]) -> Result<bool, AllocError> {
+    Ok(Anycast::of(&Own, sets_of(alloc, given)?).is_ok())
 }
 
 #[test]
 fn sets_that_dont_fit_are_refused(rt: HostRuntime) -> Result<(), Fail> {
-    let alloc = rt.alloc();
-    is_refused(&rt, one_set(alloc, SHARED, SECOND, &[THIRD])?);
-    is_refused(&rt, one_set(alloc, SECOND, FIRST, &[THIRD])?);
-    is_refused(&rt, one_set(alloc, SHARED, SHARED, &[THIRD])?);
-    is_refused(&rt, one_set(alloc, SHARED, FIRST, &[SECOND, SECOND])?);
-    is_refused(&rt, one_set(alloc, SHARED, FIRST, &[SECOND, SHARED])?);
-    is_refused(&rt, one_set(alloc, SHARED, FIRST, &[Addr::NONE])?);
-    is_refused(&rt, one_set(alloc, SHARED, FIRST, &[SOURCE.group])?);
-    let mut sets = one_set(alloc, SHARED, FIRST, &[SECOND])?;
-    sets.push(set_of(alloc, SHARED, FIRST, &[THIRD])?)?;
-    is_refused(&rt, sets);
+    const BAD: &[&[(Addr, Addr, &[Addr])]] = &[
+        &[(SHARED, SECOND, &[THIRD])],
+        &[(SECOND, FIRST, &[THIRD])],
+        &[(SHARED, SHARED, &[THIRD])],
+        &[(SHARED, FIRST, &[SECOND, SECOND])],
+        &[(SHARED, FIRST, &[SECOND, SHARED])],
+        &[(SHARED, FIRST, &[Addr::NONE])],
+        &[(SHARED, FIRST, &[Addr { bits: 0xEF01_0101 }])],
+        &[(SHARED, FIRST, &[SECOND]), (SHARED, FIRST, &[THIRD])],
+    ];
+    for given in BAD {
+        assert!(&rt; !are_accepted(rt.alloc(), given)?);
+    }
     Ok(())
 }
 
-// The addresses from 10.255.1.0 on.
-fn many(alloc: Global, count: u32) -> Result<Vec<Addr>, AllocError> {
+// Is a set accepted with so many others, from 10.255.1.0 on?
+fn is_room_for(alloc: Global, count: u32) -> Result<bool, AllocError> {
     let mut others = Vec::new(alloc);
     for number in 0..count {
         others.push(Addr::from(0x0AFF_0100 | (number & 0xFF)))?;
     }
-    Ok(others)
+    are_accepted(alloc, &[(SHARED, FIRST, &others)])
 }
 
 #[test]
 fn a_set_has_at_most_sixteen_others(rt: HostRuntime) -> Result<(), Fail> {
-    let alloc = rt.alloc();
-    let sixteen = many(alloc, 16)?;
-    let accepted = Anycast::of(&Own, one_set(alloc, SHARED, FIRST, &sixteen)?);
-    assert!(&rt; accepted.is_ok());
-    let seventeen = many(alloc, 17)?;
-    is_refused(&rt, one_set(alloc, SHARED, FIRST, &seventeen)?);
+    assert!(&rt; is_room_for(rt.alloc(), 16)?);
+    assert!(&rt; !is_room_for(rt.alloc(), 17)?);
     Ok(())
 }
 
@@ -375,14 +376,13 @@ fn a_local_source_is_announced(rt: HostRuntime) -> Result<(), Fail> {
     let alloc = rt.alloc();
     let front = front_with(alloc, &[SECOND, THIRD])?;
     let router = router_at(60_000);
-    let first = front.announce_new(alloc, &router, SOURCE, false)?;
-    has_sent(&rt, &first, ANNOUNCED_TO_SECOND, ANNOUNCED_TO_THIRD);
-    let again = front.announce_new(alloc, &router, SOURCE, true)?;
-    has_sent_none(&rt, &again);
-    let due = front.announce_due(alloc, &router, 59_999)?;
-    has_sent(&rt, &due, ANNOUNCED_TO_SECOND, ANNOUNCED_TO_THIRD);
-    let early = front.announce_due(alloc, &router, 60_000)?;
-    has_sent_none(&rt, &early);
+    for (before, is_due) in [(false, true), (true, false)] {
+        let sent = front.announce_new(alloc, &router, SOURCE, before)?;
+        announces(&rt, &sent, is_due);
+    }
+    for (before, is_due) in [(59_999, true), (60_000, false)] {
+        announces(&rt, &front.announce_due(alloc, &router, before)?, is_due);
+    }
     Ok(())
 }
 

@@ -24,6 +24,9 @@ const OWN: Addr = Addr { bits: 0x0A63_0001 };
 
 const BSR: Addr = Addr { bits: 0x0A63_0009 };
 
+// A BSR of a greater address.
+const HIGH_BSR: Addr = Addr { bits: 0x0A63_000A };
+
 // A BSR to which no route leads.
 const LOST_BSR: Addr = Addr { bits: 0x0A62_0009 };
 
@@ -56,7 +59,7 @@ impl Surroundings for Router {
       address = λ i. 0x0A00_0001;
     } };
 
-    fn present(&self) -> u64 {
+    fn present_moment(&self) -> u64 {
         self.moment.min(1 << 62)
     }
 
@@ -91,27 +94,26 @@ impl Surroundings for Router {
     }
 }
 
-// An RP of a message.
+// An RP of a message: its address, holdtime and priority.
 #[derive(Clone, Copy)]
-struct Candidate {
-    address: Addr,
-    holdtime: u16,
-    priority: u8,
-}
+struct Candidate(Addr, u16, u8);
 
-const fn rp(address: Addr) -> Candidate {
-    Candidate {
-        address,
-        holdtime: 150,
-        priority: 5,
-    }
-}
+const FIRST: Candidate = Candidate(FIRST_RP, 150, 5);
+
+const SECOND: Candidate = Candidate(SECOND_RP, 150, 5);
+
+const THIRD: Candidate = Candidate(THIRD_RP, 150, 5);
+
+// A range of a message as its fields follow: flags, mask length, group, count of RPs, and those that are there.
+#[derive(Clone, Copy)]
+struct Range<'a>(u8, u8, Addr, u8, &'a [Candidate]);
 
 // The head of a message, whose ranges are put behind it.
 #[derive(Clone, Copy)]
 struct Head {
     no_forward: bool,
     tag: u16,
+    hash_length: u8,
     priority: u8,
     bsr: Addr,
 }
@@ -119,110 +121,195 @@ struct Head {
 const HEAD: Head = Head {
     no_forward: false,
     tag: 7,
+    hash_length: 30,
     priority: 10,
     bsr: BSR,
 };
 
-fn message(alloc: Global, head: Head) -> Result<Vec<u8>, AllocError> {
-    let [high, low] = head.tag.to_be_bytes();
-    let [first, second, third, fourth] = head.bsr.octets();
-    let flags = if head.no_forward { 0x80 } else { 0 };
-    let mut bytes = Vec::new(alloc);
-    bytes.extend_from_slice(&[0x24, flags, 0, 0, high, low, 30, head.priority])?;
-    bytes.extend_from_slice(&[1, 0, first, second, third, fourth])?;
-    Ok(bytes)
-}
-
-// A range of a message.
-#[derive(Clone, Copy)]
-struct Range {
-    flags: u8,
-    mask: u8,
-    group: Addr,
-    count: u8,
-}
-
-const fn wide(count: u8) -> Range {
-    Range {
-        flags: 0,
-        mask: 8,
-        group: WIDE,
-        count,
-    }
-}
-
 fn put_rp(bytes: &mut Vec<u8>, rp: Candidate) -> Result<(), AllocError> {
-    let [first, second, third, fourth] = rp.address.octets();
-    let [high, low] = rp.holdtime.to_be_bytes();
+    let Candidate(address, holdtime, priority) = rp;
+    let [first, second, third, fourth] = address.octets();
+    let [high, low] = holdtime.to_be_bytes();
     bytes.extend_from_slice(&[1, 0, first, second, third, fourth])?;
-    bytes.extend_from_slice(&[high, low, rp.priority, 0])
+    bytes.extend_from_slice(&[high, low, priority, 0])
 }
 
-fn put_range(bytes: &mut Vec<u8>, range: Range, rps: &[Candidate]) -> Result<(), AllocError> {
-    let [first, second, third, fourth] = range.group.octets();
-    bytes.extend_from_slice(&[1, 0, range.flags, range.mask, first, second, third, fourth])?;
+fn put_range(bytes: &mut Vec<u8>, range: Range<'_>) -> Result<(), AllocError> {
+    let Range(flags, mask, group, count, rps) = range;
+    let [first, second, third, fourth] = group.octets();
+    bytes.extend_from_slice(&[1, 0, flags, mask, first, second, third, fourth])?;
     let here = (rps.len() % 256) as u8;
-    bytes.extend_from_slice(&[range.count, here, 0, 0])?;
+    bytes.extend_from_slice(&[count, here, 0, 0])?;
     for rp in rps {
         put_rp(bytes, *rp)?;
     }
     Ok(())
 }
 
-// A message of one range.
-fn one_range(
-    alloc: Global,
-    head: Head,
-    range: Range,
-    rps: &[Candidate],
-) -> Result<Vec<u8>, AllocError> {
-    let mut bytes = message(alloc, head)?;
-    put_range(&mut bytes, range, rps)?;
+fn put_head(bytes: &mut Vec<u8>, head: Head) -> Result<(), AllocError> {
+    let [high, low] = head.tag.to_be_bytes();
+    let [first, second, third, fourth] = head.bsr.octets();
+    let flags = if head.no_forward { 0x80 } else { 0 };
+    bytes.extend_from_slice(&[0x24, flags, 0, 0, high, low])?;
+    bytes.extend_from_slice(&[head.hash_length, head.priority])?;
+    bytes.extend_from_slice(&[1, 0, first, second, third, fourth])
+}
+
+fn message(alloc: Global, head: Head, ranges: &[Range<'_>]) -> Result<Vec<u8>, AllocError> {
+    let mut bytes = Vec::new(alloc);
+    put_head(&mut bytes, head)?;
+    for range in ranges {
+        put_range(&mut bytes, *range)?;
+    }
     Ok(bytes)
 }
 
-// A listener before a router, and what it sent on.
+// A message of as many ranges 225.0.0.0/32 and on, from a first one.
+fn many_ranges(alloc: Global, first: u32, count: u32) -> Result<Vec<u8>, AllocError> {
+    let mut bytes = message(alloc, HEAD, &[])?;
+    for number in 0..count.min(256) {
+        let group = Addr::from(0xE100_0000 + first % 0x1_0000 + number);
+        put_range(&mut bytes, Range(0, 32, group, 1, &[FIRST]))?;
+    }
+    Ok(bytes)
+}
+
+// The addresses 11.0.0.1 and on, ten of each number.
+fn ten_rps(alloc: Global, number: u32) -> Result<Vec<Candidate>, AllocError> {
+    let start = 0x0B00_0001 + 10 * (number % 256);
+    let mut rps = Vec::new(alloc);
+    for other in 0..10u32 {
+        rps.push(Candidate(Addr::from(start + other), 65535, 5))?;
+    }
+    Ok(rps)
+}
+
+// The range 239.0.0.0/8 as configured.
+fn one_range(alloc: Global, rp: Addr) -> Result<Vec<RpRange>, AllocError> {
+    let (address, length) = (WIDE, 8);
+    let prefix = Prefix { address, length };
+    let mut ranges = Vec::new(alloc);
+    ranges.push(RpRange { prefix, rp })?;
+    Ok(ranges)
+}
+
+// What a listener does or is asked, and what is expected of it.
+#[derive(Clone, Copy)]
+enum Step {
+    // Messages come from an address on an interface, at first from the RPF neighbour.
+    From(IfaceId, Addr),
+    // A message of the range 239.0.0.0/8 with a count and RPs.
+    Hear(Head, u8, &'static [Candidate], Heard),
+    // One of that range with another mask.
+    HearMask(u8, Heard),
+    HearRanges(Head, &'static [Range<'static>], Heard),
+    // A message of so many ranges, from a first one.
+    HearMany(u32, u32, Heard),
+    HearFronts,
+    HearTens,
+    // How many RPs are in force, and how many wait in parts.
+    Knows(usize, usize),
+    // The router is given one RP, or none.
+    Gives(Option<Addr>),
+    // It would be given so many ranges beside a configured one.
+    Beside(Addr, usize),
+    Configure(Addr),
+    FirstEnd(Option<u64>),
+    FirstGroup(Option<Addr>),
+    SentOn(usize),
+    Moment(u64),
+    // The time goes on, and the router is to be given other ranges or isn't.
+    Pass(u64, bool),
+    Upstream(Addr),
+}
+
+// A listener before a router, whose messages come from an address on an interface, and what it sent on.
 #[derive(Drop)]
 struct Play {
+    alloc: Global,
     listener: Listener,
     router: Router,
+    from: (IfaceId, Addr),
     out: Vec<Emission>,
 }
 
 impl Play {
     fn new(alloc: Global, limit: usize) -> Play {
         Play {
+            alloc,
             listener: Listener::new(alloc, limit, Vec::new(alloc), 60_000),
             router: Router {
                 moment: 1000,
                 upstream: UPSTREAM,
             },
+            from: (NEAR, UPSTREAM),
             out: Vec::new(alloc),
         }
     }
 
-    // A message comes in a packet from a source. What was sent on before is dropped.
-    fn hear_from(
-        &mut self,
-        alloc: Global,
-        iface: IfaceId,
-        source: Addr,
-        message: &[u8],
-    ) -> Result<Heard, AllocError> {
-        let mut packet = Vec::new(alloc);
+    // A message comes in a packet. What was sent on before is dropped.
+    fn hear(&mut self, message: &[u8]) -> Result<Heard, AllocError> {
+        let (iface, source) = self.from;
+        let mut packet = Vec::new(self.alloc);
         let message = &message[..message.len().min(1480)];
         write_pim_packet(1, source, Addr::ALL_PIM_ROUTERS, message, &mut packet)?;
         self.out.clear();
-        self.listener.hear(alloc, &self.router, iface, packet.as_slice(), &mut self.out)
+        self.listener.hear(
+            self.alloc,
+            &self.router,
+            iface,
+            packet.as_slice(),
+            &mut self.out,
+        )
     }
 
-    fn hear(&mut self, alloc: Global, message: &[u8]) -> Result<Heard, AllocError> {
-        self.hear_from(alloc, NEAR, UPSTREAM, message)
+    fn hear_of(&mut self, head: Head, ranges: &[Range<'_>]) -> Result<Heard, AllocError> {
+        let message = message(self.alloc, head, ranges)?;
+        self.hear(&message)
     }
 
-    fn pass_to(&mut self, alloc: Global, moment: u64) -> Result<bool, AllocError> {
+    fn hear_wide(&mut self, head: Head, count: u8, rps: &[Candidate]) -> Result<Heard, AllocError> {
+        self.hear_of(head, &[Range(0, 8, WIDE, count, rps)])
+    }
+
+    fn hear_mask(&mut self, mask: u8) -> Result<Heard, AllocError> {
+        self.hear_of(HEAD, &[Range(0, mask, WIDE, 1, &[FIRST])])
+    }
+
+    fn hear_many(&mut self, first: u32, count: u32) -> Result<Heard, AllocError> {
+        let message = many_ranges(self.alloc, first, count)?;
+        self.hear(&message)
+    }
+
+    fn hear_ten(&mut self, number: u32) -> Result<Heard, AllocError> {
+        let rps = ten_rps(self.alloc, number)?;
+        self.hear_wide(HEAD, 255, &rps)
+    }
+
+    // The RP of the first range that the router is given.
+    fn given(&self) -> Result<Option<Addr>, AllocError> {
+        let given = self.listener.given(self.alloc)?;
+        Ok(given.first().map(|range| range.rp))
+    }
+
+    fn given_beside(&self, rp: Addr) -> Result<usize, AllocError> {
+        let ranges = one_range(self.alloc, rp)?;
+        Ok(self.listener.given_beside(self.alloc, 256, &ranges)?.len())
+    }
+
+    fn configure(&mut self, rp: Addr) -> Result<(), AllocError> {
+        self.listener.configure(256, one_range(self.alloc, rp)?);
+        Ok(())
+    }
+
+    fn first_group(&self) -> Option<Addr> {
+        let first = self.listener.rps().first();
+        first.map(|learned| learned.prefix.address)
+    }
+
+    fn pass_to(&mut self, moment: u64) -> Result<bool, AllocError> {
         self.router.moment = moment;
-        self.listener.pass_to(alloc, moment)
+        self.listener.pass_to(self.alloc, moment)
     }
 }
 
@@ -230,368 +317,332 @@ fn is(rt: &impl Abort, heard: Heard, want: Heard) {
     assert!(rt; heard == want);
 }
 
+// Each front of a message is heard, and then it with a byte more.
+fn hears_fronts(rt: &impl Abort, play: &mut Play) -> Result<(), AllocError> {
+    let mut whole = message(play.alloc, HEAD, &[Range(0, 8, WIDE, 1, &[FIRST])])?;
+    for length in 4..whole.len() {
+        let cut = play.hear(&whole[..length])?;
+        // Behind its BSR a message may end: then it has no range.
+        if length == 14 {
+            is(rt, cut, Heard::Taken(false));
+        } else {
+            is(rt, cut, Heard::Refused(Refusal::Short));
+        }
+    }
+    whole.push(0)?;
+    let longer = play.hear(&whole)?;
+    is(rt, longer, Heard::Refused(Refusal::Short));
+    Ok(())
+}
+
+// Twenty messages of ten RPs each are heard. There is room for those of ten.
+fn hears_tens(rt: &impl Abort, play: &mut Play) -> Result<(), AllocError> {
+    for number in 0..20u32 {
+        let heard = play.hear_ten(number)?;
+        if number < 10 {
+            is(rt, heard, Heard::Taken(false));
+        } else {
+            is(rt, heard, Heard::Ignored(Why::NoRoom));
+        }
+    }
+    Ok(())
+}
+
 fn knows(rt: &impl Abort, play: &Play, rps: usize, parts: usize) {
     assert_eq!(rt; play.listener.rps().len(), rps);
     assert_eq!(rt; play.listener.parts().len(), parts);
 }
 
-// The router is given one RP, or none.
-fn gives(rt: &impl Abort, alloc: Global, play: &Play, want: Option<Addr>) -> Result<(), Fail> {
-    let given = play.listener.given(alloc)?;
-    let first = given.first().map(|range| range.rp);
-    assert!(rt; first == want);
-    Ok(())
-}
-
-fn sends_on(rt: &impl Abort, play: &Play, count: usize) {
-    assert_eq!(rt; play.out.len(), count);
+fn are(rt: &impl Abort, address: Option<Addr>, want: Option<Addr>) {
+    assert!(rt; address == want);
 }
 
 fn says(rt: &impl Abort, moved: bool, want: bool) {
     assert_eq!(rt; moved, want);
 }
 
+fn counts(rt: &impl Abort, count: usize, want: usize) {
+    assert_eq!(rt; count, want);
+}
+
+fn ends(rt: &impl Abort, end: Option<u64>, want: Option<u64>) {
+    assert!(rt; end == want);
+}
+
+fn take(rt: &impl Abort, play: &mut Play, step: Step) -> Result<(), AllocError> {
+    match step {
+        Step::From(iface, source) => play.from = (iface, source),
+        Step::Hear(head, count, rps, want) => is(rt, play.hear_wide(head, count, rps)?, want),
+        Step::HearMask(mask, want) => is(rt, play.hear_mask(mask)?, want),
+        Step::HearRanges(head, ranges, want) => is(rt, play.hear_of(head, ranges)?, want),
+        Step::HearMany(first, count, want) => is(rt, play.hear_many(first, count)?, want),
+        Step::HearFronts => hears_fronts(rt, play)?,
+        Step::HearTens => hears_tens(rt, play)?,
+        Step::Knows(rps, parts) => knows(rt, play, rps, parts),
+        Step::Gives(want) => are(rt, play.given()?, want),
+        Step::Beside(rp, count) => counts(rt, play.given_beside(rp)?, count),
+        Step::Configure(rp) => play.configure(rp)?,
+        Step::FirstEnd(want) => ends(rt, play.listener.first_end(), want),
+        Step::FirstGroup(want) => are(rt, play.first_group(), want),
+        Step::SentOn(count) => counts(rt, play.out.len(), count),
+        Step::Moment(moment) => play.router.moment = moment,
+        Step::Pass(moment, want) => says(rt, play.pass_to(moment)?, want),
+        Step::Upstream(upstream) => play.router.upstream = upstream,
+    }
+    Ok(())
+}
+
+fn perform(rt: &impl Abort, alloc: Global, limit: usize, steps: &[Step]) -> Result<(), Fail> {
+    let mut play = Play::new(alloc, limit);
+    for step in steps {
+        take(rt, &mut play, *step)?;
+    }
+    Ok(())
+}
+
 #[test]
 fn only_the_rpf_neighbour_is_heard(rt: HostRuntime) -> Result<(), Fail> {
-    let alloc = rt.alloc();
-    let mut play = Play::new(alloc, 256);
-    let known = one_range(alloc, HEAD, wide(1), &[rp(FIRST_RP)])?;
-    let from_rpf = play.hear_from(alloc, NEAR, OTHER, &known)?;
-    is(&rt, from_rpf, Heard::Ignored(Why::NotFromRpf));
-    let over_another = play.hear_from(alloc, FAR, UPSTREAM, &known)?;
-    is(&rt, over_another, Heard::Ignored(Why::NotFromRpf));
-    let stranger = play.hear_from(alloc, NEAR, STRANGER, &known)?;
-    is(&rt, stranger, Heard::Ignored(Why::NoNeighbour));
-    let lost = Head {
+    const LOST: Head = Head {
         bsr: LOST_BSR,
         priority: 255,
         ..HEAD
     };
-    let lost = one_range(alloc, lost, wide(1), &[rp(FIRST_RP)])?;
-    let unrouted = play.hear(alloc, &lost)?;
-    is(&rt, unrouted, Heard::Ignored(Why::NotFromRpf));
-    let own = Head { bsr: OWN, ..HEAD };
-    let own = one_range(alloc, own, wide(1), &[rp(FIRST_RP)])?;
-    let mine = play.hear(alloc, &own)?;
-    is(&rt, mine, Heard::Ignored(Why::OwnBsr));
-    knows(&rt, &play, 0, 0);
-    let taken = play.hear(alloc, &known)?;
-    is(&rt, taken, Heard::Taken(true));
-    gives(&rt, alloc, &play, Some(FIRST_RP))?;
-    Ok(())
+    const MINE: Head = Head { bsr: OWN, ..HEAD };
+    const STEPS: &[Step] = &[
+        Step::From(NEAR, OTHER),
+        Step::Hear(HEAD, 1, &[FIRST], Heard::Ignored(Why::NotFromRpf)),
+        Step::From(FAR, UPSTREAM),
+        Step::Hear(HEAD, 1, &[FIRST], Heard::Ignored(Why::NotFromRpf)),
+        Step::From(NEAR, STRANGER),
+        Step::Hear(HEAD, 1, &[FIRST], Heard::Ignored(Why::NoNeighbour)),
+        Step::From(NEAR, UPSTREAM),
+        Step::Hear(LOST, 1, &[FIRST], Heard::Ignored(Why::NotFromRpf)),
+        Step::Hear(MINE, 1, &[FIRST], Heard::Ignored(Why::OwnBsr)),
+        Step::Knows(0, 0),
+        Step::Hear(HEAD, 1, &[FIRST], Heard::Taken(true)),
+        Step::Gives(Some(FIRST_RP)),
+    ];
+    perform(&rt, rt.alloc(), 256, STEPS)
 }
 
 #[test]
 fn a_configured_range_wins(rt: HostRuntime) -> Result<(), Fail> {
-    let alloc = rt.alloc();
-    let mut play = Play::new(alloc, 256);
-    let known = one_range(alloc, HEAD, wide(1), &[rp(FIRST_RP)])?;
-    let taken = play.hear(alloc, &known)?;
-    is(&rt, taken, Heard::Taken(true));
-    let mut ranges = Vec::new(alloc);
-    ranges.push(RpRange {
-        prefix: Prefix {
-            address: WIDE,
-            length: 8,
-        },
-        rp: THIRD_RP,
-    })?;
-    let beside = play.listener.given_beside(alloc, 256, &ranges)?;
-    assert_eq!(rt; beside.len(), 1);
-    gives(&rt, alloc, &play, Some(FIRST_RP))?;
-    play.listener.configure(256, ranges);
-    gives(&rt, alloc, &play, Some(THIRD_RP))?;
-    Ok(())
+    const STEPS: &[Step] = &[
+        Step::Hear(HEAD, 1, &[FIRST], Heard::Taken(true)),
+        Step::Beside(THIRD_RP, 1),
+        Step::Gives(Some(FIRST_RP)),
+        Step::Configure(THIRD_RP),
+        Step::Gives(Some(THIRD_RP)),
+    ];
+    perform(&rt, rt.alloc(), 256, STEPS)
 }
 
 #[test]
 fn messages_that_cannot_be_read_are_refused(rt: HostRuntime) -> Result<(), Fail> {
-    let alloc = rt.alloc();
-    let mut play = Play::new(alloc, 256);
-    let whole = one_range(alloc, HEAD, wide(1), &[rp(FIRST_RP)])?;
-    for length in 4..whole.len() {
-        let cut = play.hear(alloc, &whole[..length])?;
-        // Behind its BSR a message may end: then it has no range.
-        if length == 14 {
-            is(&rt, cut, Heard::Taken(false));
-        } else {
-            is(&rt, cut, Heard::Refused(Refusal::Short));
-        }
-    }
-    let mut longer = one_range(alloc, HEAD, wide(1), &[rp(FIRST_RP)])?;
-    longer.push(0)?;
-    let left_over = play.hear(alloc, &longer)?;
-    is(&rt, left_over, Heard::Refused(Refusal::Short));
-    for mask in [0, 3, 33, 255] {
-        let range = Range { mask, ..wide(1) };
-        let wrong = one_range(alloc, HEAD, range, &[rp(FIRST_RP)])?;
-        let refused = play.hear(alloc, &wrong)?;
-        is(&rt, refused, Heard::Refused(Refusal::BadLength));
-    }
-    let unicast = Range {
-        group: BSR,
-        ..wide(1)
-    };
-    let unicast = one_range(alloc, HEAD, unicast, &[rp(FIRST_RP)])?;
-    let refused = play.hear(alloc, &unicast)?;
-    is(&rt, refused, Heard::Refused(Refusal::NotMulticast));
-    let group = one_range(alloc, HEAD, wide(1), &[rp(WIDE)])?;
-    let refused = play.hear(alloc, &group)?;
-    is(&rt, refused, Heard::Refused(Refusal::BadAddress));
-    knows(&rt, &play, 0, 0);
-    Ok(())
+    const UNICAST: Range<'static> = Range(0, 8, BSR, 1, &[FIRST]);
+    const GROUP: Candidate = Candidate(WIDE, 150, 5);
+    const STEPS: &[Step] = &[
+        Step::HearFronts,
+        Step::HearMask(0, Heard::Refused(Refusal::BadLength)),
+        Step::HearMask(3, Heard::Refused(Refusal::BadLength)),
+        Step::HearMask(33, Heard::Refused(Refusal::BadLength)),
+        Step::HearMask(255, Heard::Refused(Refusal::BadLength)),
+        Step::HearRanges(HEAD, &[UNICAST], Heard::Refused(Refusal::NotMulticast)),
+        Step::Hear(HEAD, 1, &[GROUP], Heard::Refused(Refusal::BadAddress)),
+        Step::Knows(0, 0),
+    ];
+    perform(&rt, rt.alloc(), 256, STEPS)
 }
 
 #[test]
 fn fragments_are_put_together(rt: HostRuntime) -> Result<(), Fail> {
-    let alloc = rt.alloc();
-    let mut play = Play::new(alloc, 256);
-    let first = one_range(alloc, HEAD, wide(3), &[rp(SECOND_RP), rp(THIRD_RP)])?;
-    let second = one_range(alloc, HEAD, wide(3), &[rp(FIRST_RP)])?;
-    is(&rt, play.hear(alloc, &first)?, Heard::Taken(false));
-    knows(&rt, &play, 0, 2);
-    // The same fragment again adds none.
-    is(&rt, play.hear(alloc, &first)?, Heard::Taken(false));
-    knows(&rt, &play, 0, 2);
-    is(&rt, play.hear(alloc, &second)?, Heard::Taken(true));
-    knows(&rt, &play, 3, 0);
-    gives(&rt, alloc, &play, Some(FIRST_RP))?;
-    // Under another tag the parts begin anew, and the RPs in force stay.
-    let back = Head { tag: 6, ..HEAD };
-    let early = one_range(alloc, back, wide(3), &[rp(SECOND_RP)])?;
-    is(&rt, play.hear(alloc, &early)?, Heard::Taken(false));
-    knows(&rt, &play, 3, 1);
-    // Under the same tag with another count two are all.
-    let fewer = one_range(alloc, back, wide(2), &[rp(THIRD_RP)])?;
-    is(&rt, play.hear(alloc, &fewer)?, Heard::Taken(true));
-    knows(&rt, &play, 2, 0);
-    gives(&rt, alloc, &play, Some(SECOND_RP))?;
-    // The RPF neighbour is another between two fragments.
-    is(&rt, play.hear(alloc, &first)?, Heard::Taken(false));
-    play.router.upstream = OTHER;
-    let rest = play.hear_from(alloc, NEAR, OTHER, &second)?;
-    is(&rt, rest, Heard::Taken(true));
-    knows(&rt, &play, 3, 0);
-    Ok(())
+    const BACK: Head = Head { tag: 6, ..HEAD };
+    const STEPS: &[Step] = &[
+        Step::Hear(HEAD, 3, &[SECOND, THIRD], Heard::Taken(false)),
+        Step::Knows(0, 2),
+        // The same fragment again adds none.
+        Step::Hear(HEAD, 3, &[SECOND, THIRD], Heard::Taken(false)),
+        Step::Knows(0, 2),
+        Step::Hear(HEAD, 3, &[FIRST], Heard::Taken(true)),
+        Step::Knows(3, 0),
+        Step::Gives(Some(FIRST_RP)),
+        // Under another tag the parts begin anew, and the RPs in force stay.
+        Step::Hear(BACK, 3, &[SECOND], Heard::Taken(false)),
+        Step::Knows(3, 1),
+        // Under the same tag with another count two are all.
+        Step::Hear(BACK, 2, &[THIRD], Heard::Taken(true)),
+        Step::Knows(2, 0),
+        Step::Gives(Some(SECOND_RP)),
+        // The RPF neighbour is another between two fragments.
+        Step::Hear(HEAD, 3, &[SECOND, THIRD], Heard::Taken(false)),
+        Step::Upstream(OTHER),
+        Step::From(NEAR, OTHER),
+        Step::Hear(HEAD, 3, &[FIRST], Heard::Taken(true)),
+        Step::Knows(3, 0),
+    ];
+    perform(&rt, rt.alloc(), 256, STEPS)
+}
+
+#[test]
+fn fragments_of_two_bsrs_stay_apart(rt: HostRuntime) -> Result<(), Fail> {
+    const HEAVIER: Head = Head {
+        priority: 11,
+        bsr: HIGH_BSR,
+        ..HEAD
+    };
+    const STEPS: &[Step] = &[
+        Step::Hear(HEAD, 2, &[SECOND], Heard::Taken(false)),
+        // The same tag, of another BSR: its part takes the place of the first.
+        Step::Hear(HEAVIER, 2, &[THIRD], Heard::Taken(false)),
+        Step::Knows(0, 1),
+        Step::Hear(HEAVIER, 2, &[FIRST], Heard::Taken(true)),
+        Step::Knows(2, 0),
+    ];
+    perform(&rt, rt.alloc(), 256, STEPS)
+}
+
+#[test]
+fn a_hash_mask_counts_for_all_ranges(rt: HostRuntime) -> Result<(), Fail> {
+    const UNHASHED: Head = Head {
+        hash_length: 0,
+        ..HEAD
+    };
+    const OTHER: Range<'static> = Range(0, 8, Addr { bits: 0xEE00_0000 }, 1, &[THIRD]);
+    const STEPS: &[Step] = &[
+        Step::Hear(HEAD, 3, &[SECOND, THIRD, FIRST], Heard::Taken(true)),
+        Step::Gives(Some(FIRST_RP)),
+        // Without bits of the group the hash of the second RP is the greatest.
+        Step::HearRanges(UNHASHED, &[], Heard::Taken(false)),
+        Step::Gives(Some(FIRST_RP)),
+        Step::HearRanges(UNHASHED, &[OTHER], Heard::Taken(true)),
+        Step::Gives(Some(SECOND_RP)),
+    ];
+    perform(&rt, rt.alloc(), 256, STEPS)
 }
 
 #[test]
 fn rps_go_at_their_ends(rt: HostRuntime) -> Result<(), Fail> {
-    let alloc = rt.alloc();
-    let mut play = Play::new(alloc, 256);
-    let long = Candidate {
-        holdtime: 65535,
-        priority: 9,
-        ..rp(SECOND_RP)
-    };
-    let both = one_range(alloc, HEAD, wide(2), &[rp(FIRST_RP), long])?;
-    is(&rt, play.hear(alloc, &both)?, Heard::Taken(true));
-    gives(&rt, alloc, &play, Some(FIRST_RP))?;
-    assert!(&rt; play.listener.first_end() == Some(151_000));
-    says(&rt, play.pass_to(alloc, 150_999)?, false);
-    says(&rt, play.pass_to(alloc, 151_000)?, true);
-    gives(&rt, alloc, &play, Some(SECOND_RP))?;
-    says(&rt, play.pass_to(alloc, 65_535_999)?, false);
-    says(&rt, play.pass_to(alloc, 65_536_000)?, true);
-    gives(&rt, alloc, &play, None)?;
-    // Without a holdtime an RP is taken away; of two of one address the last counts.
-    let none = Candidate {
-        holdtime: 0,
-        ..rp(FIRST_RP)
-    };
-    let twice = one_range(alloc, HEAD, wide(2), &[rp(FIRST_RP), rp(THIRD_RP), none])?;
-    is(&rt, play.hear(alloc, &twice)?, Heard::Taken(true));
-    knows(&rt, &play, 1, 0);
-    gives(&rt, alloc, &play, Some(THIRD_RP))?;
-    let gone = one_range(alloc, HEAD, wide(0), &[rp(FIRST_RP)])?;
-    is(&rt, play.hear(alloc, &gone)?, Heard::Taken(true));
-    knows(&rt, &play, 0, 0);
-    Ok(())
+    const LONG: Candidate = Candidate(SECOND_RP, 65535, 9);
+    const NONE: Candidate = Candidate(FIRST_RP, 0, 5);
+    const STEPS: &[Step] = &[
+        Step::Hear(HEAD, 2, &[FIRST, LONG], Heard::Taken(true)),
+        Step::Gives(Some(FIRST_RP)),
+        Step::FirstEnd(Some(151_000)),
+        Step::Pass(150_999, false),
+        Step::Pass(151_000, true),
+        Step::Gives(Some(SECOND_RP)),
+        Step::Pass(65_535_999, false),
+        Step::Pass(65_536_000, true),
+        Step::Gives(None),
+        // Without a holdtime an RP is taken away; of two of one address the last counts.
+        Step::Hear(HEAD, 2, &[FIRST, THIRD, NONE], Heard::Taken(true)),
+        Step::Knows(1, 0),
+        Step::Gives(Some(THIRD_RP)),
+        Step::Hear(HEAD, 0, &[FIRST], Heard::Taken(true)),
+        Step::Knows(0, 0),
+    ];
+    perform(&rt, rt.alloc(), 256, STEPS)
 }
 
 #[test]
 fn ranges_of_all_kinds_are_taken(rt: HostRuntime) -> Result<(), Fail> {
-    let alloc = rt.alloc();
-    let mut play = Play::new(alloc, 256);
-    let mut bytes = message(alloc, HEAD)?;
-    let host_bits = Range {
-        group: Addr { bits: 0xEF01_0101 },
-        ..wide(1)
-    };
-    put_range(&mut bytes, host_bits, &[rp(FIRST_RP)])?;
-    let all = Range {
-        mask: 4,
-        group: Addr { bits: 0xE000_0000 },
-        ..wide(1)
-    };
-    put_range(&mut bytes, all, &[rp(SECOND_RP)])?;
-    let specific = Range {
-        group: Addr { bits: 0xE800_0000 },
-        ..wide(1)
-    };
-    put_range(&mut bytes, specific, &[rp(THIRD_RP)])?;
-    let bidir = Range {
-        flags: 0x80,
-        mask: 16,
-        ..wide(1)
-    };
-    put_range(&mut bytes, bidir, &[rp(THIRD_RP)])?;
-    is(&rt, play.hear(alloc, &bytes)?, Heard::Taken(true));
-    knows(&rt, &play, 3, 0);
-    let first = play
-        .listener
-        .rps()
-        .first()
-        .map(|learned| learned.prefix.address);
-    assert!(&rt; first == Some(WIDE));
-    let zone = Range {
-        flags: 1,
-        ..wide(1)
-    };
-    let zone = one_range(alloc, HEAD, zone, &[rp(THIRD_RP)])?;
-    is(&rt, play.hear(alloc, &zone)?, Heard::Ignored(Why::Scoped));
-    Ok(())
-}
-
-// A message of as many ranges 225.0.0.0/32 and on, from a first one.
-fn many_ranges(alloc: Global, first: u32, count: u32) -> Result<Vec<u8>, AllocError> {
-    let mut bytes = message(alloc, HEAD)?;
-    for number in 0..count.min(256) {
-        let range = Range {
-            flags: 0,
-            mask: 32,
-            group: Addr {
-                bits: 0xE100_0000 + first % 0x1_0000 + number,
-            },
-            count: 1,
-        };
-        put_range(&mut bytes, range, &[rp(FIRST_RP)])?;
-    }
-    Ok(bytes)
+    const HOST_BITS: Range<'static> = Range(0, 8, Addr { bits: 0xEF01_0101 }, 1, &[FIRST]);
+    const ALL: Range<'static> = Range(0, 4, Addr { bits: 0xE000_0000 }, 1, &[SECOND]);
+    const SPECIFIC: Range<'static> = Range(0, 8, Addr { bits: 0xE800_0000 }, 1, &[THIRD]);
+    const BIDIR: Range<'static> = Range(0x80, 16, WIDE, 1, &[THIRD]);
+    const ZONE: Range<'static> = Range(1, 8, WIDE, 1, &[THIRD]);
+    const STEPS: &[Step] = &[
+        Step::HearRanges(HEAD, &[HOST_BITS, ALL, SPECIFIC, BIDIR], Heard::Taken(true)),
+        Step::Knows(3, 0),
+        Step::FirstGroup(Some(WIDE)),
+        Step::HearRanges(HEAD, &[ZONE], Heard::Ignored(Why::Scoped)),
+    ];
+    perform(&rt, rt.alloc(), 256, STEPS)
 }
 
 #[test]
 fn there_is_room_for_so_many(rt: HostRuntime) -> Result<(), Fail> {
-    let alloc = rt.alloc();
-    let mut play = Play::new(alloc, 256);
-    for first in [0, 64, 128, 192] {
-        let bytes = many_ranges(alloc, first, 64)?;
-        is(&rt, play.hear(alloc, &bytes)?, Heard::Taken(true));
-    }
-    knows(&rt, &play, 256, 0);
-    let more = many_ranges(alloc, 256, 1)?;
-    is(&rt, play.hear(alloc, &more)?, Heard::Ignored(Why::NoRoom));
-    let same = many_ranges(alloc, 255, 1)?;
-    is(&rt, play.hear(alloc, &same)?, Heard::Taken(false));
-    Ok(())
+    const STEPS: &[Step] = &[
+        Step::HearMany(0, 64, Heard::Taken(true)),
+        Step::HearMany(64, 64, Heard::Taken(true)),
+        Step::HearMany(128, 64, Heard::Taken(true)),
+        Step::HearMany(192, 64, Heard::Taken(true)),
+        Step::Knows(256, 0),
+        Step::HearMany(256, 1, Heard::Ignored(Why::NoRoom)),
+        Step::HearMany(255, 1, Heard::Taken(false)),
+    ];
+    perform(&rt, rt.alloc(), 256, STEPS)
 }
 
 #[test]
 fn fragments_that_never_end_go(rt: HostRuntime) -> Result<(), Fail> {
-    let alloc = rt.alloc();
-    let mut play = Play::new(alloc, 100);
-    for number in 0..20u32 {
-        let start = 0x0B00_0001 + 10 * number;
-        let mut rps = Vec::new(alloc);
-        for other in 0..10u32 {
-            let address = Addr {
-                bits: start + other,
-            };
-            rps.push(Candidate {
-                holdtime: 65535,
-                ..rp(address)
-            })?;
-        }
-        let bytes = one_range(alloc, HEAD, wide(255), &rps)?;
-        let heard = play.hear(alloc, &bytes)?;
-        if number < 10 {
-            is(&rt, heard, Heard::Taken(false));
-        } else {
-            is(&rt, heard, Heard::Ignored(Why::NoRoom));
-        }
-    }
-    knows(&rt, &play, 0, 100);
-    says(&rt, play.pass_to(alloc, 130_999)?, false);
-    knows(&rt, &play, 0, 100);
-    says(&rt, play.pass_to(alloc, 131_000)?, false);
-    knows(&rt, &play, 0, 0);
-    Ok(())
+    const STEPS: &[Step] = &[
+        Step::HearTens,
+        Step::Knows(0, 100),
+        Step::Pass(130_999, false),
+        Step::Knows(0, 100),
+        Step::Pass(131_000, false),
+        Step::Knows(0, 0),
+    ];
+    perform(&rt, rt.alloc(), 100, STEPS)
 }
 
 #[test]
 fn the_heavier_bsr_counts_until_its_timer_expires(rt: HostRuntime) -> Result<(), Fail> {
-    let alloc = rt.alloc();
-    let mut play = Play::new(alloc, 256);
-    let low = one_range(alloc, HEAD, wide(1), &[rp(FIRST_RP)])?;
-    let high = Head {
-        bsr: Addr { bits: 0x0A63_000A },
+    const HIGH: Head = Head {
+        bsr: HIGH_BSR,
         ..HEAD
     };
-    let high = one_range(alloc, high, wide(1), &[rp(SECOND_RP)])?;
-    is(&rt, play.hear(alloc, &low)?, Heard::Taken(true));
-    is(&rt, play.hear(alloc, &high)?, Heard::Taken(true));
-    // Of equal weight but for the address.
-    is(
-        &rt,
-        play.hear(alloc, &low)?,
-        Heard::Ignored(Why::NotPreferred),
-    );
-    // The elected one counts with less weight too.
-    let lighter = Head {
+    const LIGHTER: Head = Head {
         priority: 1,
-        bsr: Addr { bits: 0x0A63_000A },
-        ..HEAD
+        ..HIGH
     };
-    let lighter = one_range(alloc, lighter, wide(1), &[rp(SECOND_RP)])?;
-    is(&rt, play.hear(alloc, &lighter)?, Heard::Taken(false));
-    is(&rt, play.hear(alloc, &low)?, Heard::Taken(true));
-    is(&rt, play.hear(alloc, &high)?, Heard::Taken(true));
-    says(&rt, play.pass_to(alloc, 130_999)?, false);
-    is(
-        &rt,
-        play.hear(alloc, &low)?,
-        Heard::Ignored(Why::NotPreferred),
-    );
-    says(&rt, play.pass_to(alloc, 131_000)?, false);
-    is(&rt, play.hear(alloc, &low)?, Heard::Taken(true));
-    Ok(())
+    const STEPS: &[Step] = &[
+        Step::Hear(HEAD, 1, &[FIRST], Heard::Taken(true)),
+        Step::Hear(HIGH, 1, &[SECOND], Heard::Taken(true)),
+        // Of equal weight but for the address.
+        Step::Hear(HEAD, 1, &[FIRST], Heard::Ignored(Why::NotPreferred)),
+        // The elected one counts with less weight too.
+        Step::Hear(LIGHTER, 1, &[SECOND], Heard::Taken(false)),
+        Step::Hear(HEAD, 1, &[FIRST], Heard::Taken(true)),
+        Step::Hear(HIGH, 1, &[SECOND], Heard::Taken(true)),
+        Step::Pass(130_999, false),
+        Step::Hear(HEAD, 1, &[FIRST], Heard::Ignored(Why::NotPreferred)),
+        Step::Pass(131_000, false),
+        Step::Hear(HEAD, 1, &[FIRST], Heard::Taken(true)),
+    ];
+    perform(&rt, rt.alloc(), 256, STEPS)
 }
 
 #[test]
 fn a_message_is_sent_on_once(rt: HostRuntime) -> Result<(), Fail> {
-    let alloc = rt.alloc();
-    let mut play = Play::new(alloc, 256);
-    let bytes = one_range(alloc, HEAD, wide(1), &[rp(FIRST_RP)])?;
-    is(&rt, play.hear(alloc, &bytes)?, Heard::Taken(true));
-    sends_on(&rt, &play, 2);
-    // A repetition within a second isn't sent on where it came.
-    play.router.moment = 1999;
-    is(&rt, play.hear(alloc, &bytes)?, Heard::Taken(false));
-    sends_on(&rt, &play, 1);
-    play.router.moment = 2999;
-    is(&rt, play.hear(alloc, &bytes)?, Heard::Taken(false));
-    sends_on(&rt, &play, 2);
-    // With No-Forward a message counts first of all alone.
-    let refresh = Head {
+    const REFRESH: Head = Head {
         no_forward: true,
         ..HEAD
     };
-    let refresh = one_range(alloc, refresh, wide(1), &[rp(SECOND_RP)])?;
-    is(
-        &rt,
-        play.hear(alloc, &refresh)?,
-        Heard::Ignored(Why::LateRefresh),
-    );
-    let mut fresh = Play::new(alloc, 256);
-    let heard = fresh.hear_from(alloc, FAR, OTHER, &refresh)?;
-    is(&rt, heard, Heard::Taken(true));
-    sends_on(&rt, &fresh, 0);
-    let mut late = Play::new(alloc, 256);
-    late.router.moment = 60_001;
-    is(
-        &rt,
-        late.hear(alloc, &refresh)?,
-        Heard::Ignored(Why::LateRefresh),
-    );
-    Ok(())
+    const STEPS: &[Step] = &[
+        Step::Hear(HEAD, 1, &[FIRST], Heard::Taken(true)),
+        Step::SentOn(2),
+        // A repetition within a second isn't sent on where it came.
+        Step::Moment(1999),
+        Step::Hear(HEAD, 1, &[FIRST], Heard::Taken(false)),
+        Step::SentOn(1),
+        Step::Moment(2999),
+        Step::Hear(HEAD, 1, &[FIRST], Heard::Taken(false)),
+        Step::SentOn(2),
+        // With No-Forward a message counts first of all alone.
+        Step::Hear(REFRESH, 1, &[SECOND], Heard::Ignored(Why::LateRefresh)),
+    ];
+    const FRESH: &[Step] = &[
+        Step::From(FAR, OTHER),
+        Step::Hear(REFRESH, 1, &[SECOND], Heard::Taken(true)),
+        Step::SentOn(0),
+    ];
+    const LATE: &[Step] = &[
+        Step::Moment(60_001),
+        Step::Hear(REFRESH, 1, &[SECOND], Heard::Ignored(Why::LateRefresh)),
+    ];
+    perform(&rt, rt.alloc(), 256, STEPS)?;
+    perform(&rt, rt.alloc(), 256, FRESH)?;
+    perform(&rt, rt.alloc(), 256, LATE)
 }

@@ -77,7 +77,7 @@ impl Querier for Records {
 
     ghost group_records = { λ q. q.rows };
 
-    fn present(&self) -> u64 {
+    fn present_moment(&self) -> u64 {
         self.present
     }
 

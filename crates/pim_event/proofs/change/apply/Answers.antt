@@ -1,7 +1,7 @@
-use Rattle.std.{proofs.Common.{subst, sym, ◌≡◌}}
+use Rattle.std.{proofs.Common.{IfSome, subst, sym, ◌≡◌}}
 use Rattle.pim_macros.{specs.declared.sight.SourceSight.SourceSight}
 use Rattle.pim_plan.{specs.{Acting.{HasRead, IsSightOf, act_event}, Naming.IsConfigured, declared.act.Act.Act}}
-use Rattle.pim_event.{specs.Replacing.replaced_after, proofs.Sending.{data_sends, nothing_sends, register_sends}}
+use Rattle.pim_event.{specs.{AtRp.IsKnownIn, Replacing.replaced_after}, proofs.Sending.{data_sends, nothing_sends, register_sends}}
 use Rattle.pim_event.proofs.change.apply.Goals as goal
 
 pub returns-in-Data-clause-sends : goal.returns-in-Data-clause-sends
@@ -26,6 +26,10 @@ pub forward-requires-clause-sight : goal.forward-requires-clause-sight
 forward-requires-clause-sight c =
     subst (λ (x : SourceSight). IsSightOf c.args.world.now c.in-Data.packet.destination c.in-Data.packet.source x)
     (sym c.into_inner.ensures) (subst (λ (x : Act). HasRead c.args.world.now x) c.in-Data.is c.requires.read)
+
+pub decapsulate-requires : goal.decapsulate-requires
+decapsulate-requires c =
+    subst (λ (x : Act). IfSome c.args.known (IsKnownIn c.args.world.now (act_event x))) c.in-Register.is c.requires.known
 
 pub apply_control-requires-clause-configured : goal.apply_control-requires-clause-configured
 apply_control-requires-clause-configured c =

@@ -1,4 +1,4 @@
-use Rattle.std.{proofs.Common.{List, ap, arith, ◌++◌, ◌≡◌, ◌∙◌}}
+use Rattle.std.{proofs.Common.{List, ap, arith, ◌++◌, ◌∙◌}}
 use Rattle.pim_types.{specs.declared.outcome.Emission.Emission}
 use Rattle.pim_model.{specs.{Messages.Message, Step.{Answered, outcome_of}, Writing.write_all}}
 use Rattle.pim_state.{specs.Turns.Taking}

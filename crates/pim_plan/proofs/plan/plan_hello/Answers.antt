@@ -1,29 +1,25 @@
 use Rattle.std.{proofs.Common.{List, [], ap, refl, sym, ◌∙◌}}
 use Rattle.pim_types.{specs.declared.fact.{Key.Key, NeighbourRow.NeighbourRow}}
-use Rattle.pim_model.{specs.{declared.accepted.Accepted.Accepted, Full.is_full, Tables.Table}}
+use Rattle.pim_model.{specs.{Full.is_full, Tables.Table}}
 use Rattle.pim_neighbours.{specs.Refreshed.is_refreshed}
 use Rattle.law_events.{specs.Adjacent.keys_of_hello}
 use Rattle.pim_rerouted.{specs.Few.few_or_all}
-use Rattle.pim_plan.{specs.{Planning.touched_of, declared.act.{Act.Act, Control.Control}}, proofs.{Plans.{adjoins_fit, else_where, keys_fit, keys_where}, Touching.{hello_moves, refreshed_covered}}}
+use Rattle.pim_plan.{specs.{Planning.touched_of, declared.act.{Act.Act, Control.Control}}, proofs.{Plans.{adjoins_fit, else_where}, Touching.hello_moves}}
 use Rattle.pim_state.{specs.declared.touched.Touched.Touched}
 use Rattle.pim_plan.proofs.plan.plan_hello.Goals as goal
+
+pub returns-then-is_refreshed : goal.returns-then-is_refreshed
+returns-then-is_refreshed c = record {
+  event = refl;
+  refreshes = sym (c.is_refreshed.ensures
+      ∙ ap (λ (t : Table NeighbourRow). is_refreshed t c.args.iface.number c.args.from.bits c.args.hello)
+      c.neighbours.ensures)
+      ∙ c.if-is_refreshed.true;
+}
 
 pub returns-then-is_full : goal.returns-then-is_full
 unfolding is_full
 returns-then-is_full c = sym c.is_full.ensures ∙ c.if-is_full.true
-
-pub returns-then-is_refreshed : goal.returns-then-is_refreshed
-unfolding is_full touched_of
-returns-then-is_refreshed c =
-    let tested = c.is_refreshed.ensures
-    ∙ ap (λ (t : Table NeighbourRow). is_refreshed t c.args.iface.number c.args.from.bits c.args.hello)
-    c.neighbours.ensures in
-    keys_fit c.args.world.now (Accepted.Hello c.args.iface c.args.from c.args.hello) c.of_nothing.result
-    (Act.Control (Control.Hello c.args.iface c.args.from c.args.hello)) refl tt
-    (sym c.is_full.ensures ∙ c.if-is_full.false) [] c.of_nothing.ensures
-    (keys_where _ [] [] _ (sym tested ∙ c.if-is_refreshed.true) refl)
-    (refreshed_covered c.args.world.now c.args.iface c.args.from c.args.hello [] c.is_refreshed.result
-    c.requires.settled.ordered.neighbours tested c.if-is_refreshed.true refl)
 
 pub returns : goal.returns
 unfolding is_full touched_of

@@ -7,6 +7,14 @@ pub returns-then-branch : goal.returns-then-branch
 unfolding is_full
 returns-then-branch c = sym c.in_ok-is_full.ensures ∙ c.if-branch.true
 
+pub returns-then-all_renew : goal.returns-then-all_renew
+unfolding is_full
+returns-then-all_renew c = record {
+  event = refl;
+  room = sym c.in_ok-is_full.ensures ∙ c.if-branch.false;
+  renews = sym c.all_renew.ensures ∙ c.if-all_renew.true;
+}
+
 pub returns-then-all_keep_modes : goal.returns-then-all_keep_modes
 unfolding is_full touched_of
 returns-then-all_keep_modes c =

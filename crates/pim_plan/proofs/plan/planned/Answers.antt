@@ -1,6 +1,6 @@
-use Rattle.std.{proofs.Common.{refl, subst, sym, ◌∙◌}}
-use Rattle.pim_model.{specs.{declared.accepted.Accepted.Accepted, Full.is_full}}
-use Rattle.pim_plan.{specs.{Naming.Brings, Planning.touched_of}, proofs.{Plans.planned_of, Tables.{holds, is_there}}}
+use Rattle.std.{proofs.Common.{subst, sym, ◌∙◌}}
+use Rattle.pim_model.{specs.{declared.accepted.Accepted.Accepted}}
+use Rattle.pim_plan.{specs.{Naming.Brings}, proofs.{Plans.planned_of, Tables.{holds, is_there}}}
 use Rattle.pim_plan.proofs.plan.planned.Goals as goal
 
 pub returns-in-Up : goal.returns-in-Up

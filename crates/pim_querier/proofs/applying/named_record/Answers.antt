@@ -3,7 +3,7 @@ use Rattle.pim_filters.{specs.Members.{IsAscending, member_entries}}
 use Rattle.pim_model.{specs.{Querier.group_end, Records.{Absent, source_state_in, record_of}, Tables.is_among}}
 use Rattle.pim_types.{specs.Keys.addr_cmp}
 use Rattle.igmp_wire.{specs.Written.bits_of}
-use Rattle.pim_querier.{specs.Reports.{members_named, record_named}, proofs.{NamedRecords.{gathered_fares, made_so}, NamedSet.{set_among, set_ascends}}}
+use Rattle.pim_querier.{specs.Reports.{known_members, record_named}, proofs.{NamedRecords.{gathered_fares, made_so}, NamedSet.{set_among, set_ascends}}}
 use Rattle.pim_querier.proofs.applying.named_record.Goals as goal
 
 pub returns-clause-timer : goal.returns-clause-timer
@@ -36,6 +36,6 @@ returns-clause-named c =
     (λ j. record {
       timer = c.group_end.ensures j;
       members = (ap (λ ms. member_entries ms) c.deref.ensures.value ∙ c.in_ok-members.ensures.members
-          ∙ ap (members_named i g s.source_records)
+          ∙ ap (known_members i g s.source_records)
           (set_ascends c.in_ok-named.named.keys c.args.sources.now c.len.ensures.ordered c.in_ok-named.ensures)) j;
     })

@@ -14,16 +14,16 @@ returns-clause-state c =
     let x = c.args.group.now in
     let o = c.args.opened in
     let g = c.args.sight.now.star.group.bits in
-    let draw : c.tell_star.new.turn.draw ≡ w = ap (λ (t : Taking). t.draw) c.in_ok-tell_star.ensures.messages in
+    let draw : c.send_for_star.new.turn.draw ≡ w = ap (λ (t : Taking). t.draw) c.in_ok-send_for_star.ensures.messages in
     let star : Told = star_changed a w g x.star in
-    let moved : after_moves a c.tell_star.new.moves.items ≡ with_join_timer a (star_key 0 g) star.timer =
-    c.in_ok-tell_star.ensures.timers a
+    let moved : after_moves a c.send_for_star.new.moves.items ≡ with_join_timer a (star_key 0 g) star.timer =
+    c.in_ok-send_for_star.ensures.timers a
     ∙ ap (λ (ms : List TimerMove). with_join_timer (after_moves a ms) (star_key 0 g) star.timer) c.new-moves.ensures.items in
     on_ok_weaker c.move_timers.result
     (λ e. e
     ∙ ap (λ (ms : List TimerMove). after_moves a ms) c.as_slice.ensures.value
-    ∙ c.in_ok-tell_source_by_sight.ensures.timers a
-    ∙ ap (λ d. (source_step a d g (after_moves a c.tell_star.new.moves.items) o).0) draw
+    ∙ c.in_ok-send_for_source.ensures.timers a
+    ∙ ap (λ d. (source_step a d g (after_moves a c.send_for_star.new.moves.items) o).0) draw
     ∙ ap (λ (u : State). (source_step a w g u o).0) moved
     ∙ ap (λ (z : Addr). (both a w z.bits x.star o a).0) c.requires.group
     ∙ sym (ap (λ (p : State × List Message). p.0) (told_alone a w x o c.requires.alone)))
@@ -38,17 +38,17 @@ returns-clause-messages c =
     let x = c.args.group.now in
     let o = c.args.opened in
     let g = c.args.sight.now.star.group.bits in
-    let draw : c.tell_star.new.turn.draw ≡ w = ap (λ (t : Taking). t.draw) c.in_ok-tell_star.ensures.messages in
+    let draw : c.send_for_star.new.turn.draw ≡ w = ap (λ (t : Taking). t.draw) c.in_ok-send_for_star.ensures.messages in
     let star : Told = star_changed a w g x.star in
     let first : State = with_join_timer a (star_key 0 g) star.timer in
-    let moved : after_moves a c.tell_star.new.moves.items ≡ first =
-    c.in_ok-tell_star.ensures.timers a
+    let moved : after_moves a c.send_for_star.new.moves.items ≡ first =
+    c.in_ok-send_for_star.ensures.timers a
     ∙ ap (λ (ms : List TimerMove). with_join_timer (after_moves a ms) (star_key 0 g) star.timer) c.new-moves.ensures.items in
     on_ok_weaker c.move_timers.result
-    (λ e. c.in_ok-tell_source_by_sight.ensures.messages a
-    ∙ ap (λ d. saying c.tell_star.new.turn (source_step a d g (after_moves a c.tell_star.new.moves.items) o).1) draw
-    ∙ ap (λ (u : State). saying c.tell_star.new.turn (source_step a w g u o).1) moved
-    ∙ ap (λ (z : Taking). saying z (source_step a w g first o).1) c.in_ok-tell_star.ensures.messages
+    (λ e. c.in_ok-send_for_source.ensures.messages a
+    ∙ ap (λ d. saying c.send_for_star.new.turn (source_step a d g (after_moves a c.send_for_star.new.moves.items) o).1) draw
+    ∙ ap (λ (u : State). saying c.send_for_star.new.turn (source_step a w g u o).1) moved
+    ∙ ap (λ (z : Taking). saying z (source_step a w g first o).1) c.in_ok-send_for_star.ensures.messages
     ∙ said_both t star.messages (source_step a w g first o).1
     ∙ ap (λ (z : Addr). saying t (both a w z.bits x.star o a).1) c.requires.group
     ∙ sym (ap (λ (p : State × List Message). saying t p.1) (told_alone a w x o c.requires.alone)))

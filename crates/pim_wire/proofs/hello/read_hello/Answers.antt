@@ -1,5 +1,5 @@
 use Rattle.std.{proofs.Common.{◌≡◌, ◌+◌, Ok, sym, ◌∙◌, arith, rules}}
-use Rattle.pim_wire.{specs.HelloOptions.option_test, proofs.Options.{after_option, tests_step, value_step, hello_wrong, hello_right}}
+use Rattle.pim_wire.{specs.Hellos.option_test, proofs.Options.{after_option, tests_step, value_step, hello_wrong, hello_right}}
 use Rattle.pim_wire.proofs.hello.read_hello.Goals as goal
 
 pub returns-in_err-check_option : goal.returns-in_err-check_option
