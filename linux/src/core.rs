@@ -347,9 +347,14 @@ impl Core {
         self.sent.len() == 0
     }
 
+    /// Each packet that is to leave, in their order.
+    pub fn packets(&self) -> impl Iterator<Item = (Target, &[u8])> {
+        self.sent.since(0)
+    }
+
     /// Hands on each packet that is to leave, once, in the order in which they are to.
     pub fn each_packet(&mut self, mut take: impl FnMut(Target, &[u8])) {
-        self.sent.since(0).for_each(|(target, bytes)| take(target, bytes));
+        self.packets().for_each(|(target, bytes)| take(target, bytes));
         self.sent.clear();
     }
 

@@ -6,6 +6,7 @@ mod cleared;
 mod forwarding;
 mod heard;
 mod machine;
+mod overridden;
 mod reconfigured;
 mod renumbered;
 mod resumed;
@@ -20,6 +21,7 @@ use crate::error::Fatal;
 use crate::kernel::Kernel;
 use crate::mroute::Key;
 use crate::older::Version;
+use crate::overrides::Overrides;
 use crate::packed::Packing;
 use crate::packet::{is_pim, message_of, says_goodbye, with_holdtime, Packet, HELLO};
 use crate::plane::{Placed, Plane, Row, Ways};
@@ -27,7 +29,7 @@ use crate::policy::{Books, Cause, Gate, Policy};
 use crate::ports::{self, Machine, Port};
 use crate::routes::Counts;
 use crate::said::Said;
-use crate::settings::Settings;
+use crate::settings::{Settings, Subnet};
 use crate::waiting::Waiting;
 use crate::{stand_in, words};
 use log::{debug, warn};
@@ -158,6 +160,7 @@ pub struct Daemon {
     older_heard: BTreeSet<(u32, Version)>,
     /// Of BFD, with neighbours.
     sessions: BTreeMap<Place, Session>,
+    overrides: Overrides,
     due: Due,
     stale: Stale,
     /// How many lines were said lately, by their kinds and interfaces.
@@ -197,8 +200,9 @@ impl Books for Ledger<'_> {
             Some(port) => port,
             None => return false,
         };
-        let there = port.index.map_or(&[][..], |index| self.machine.addresses(index));
-        there.iter().chain(&port.own.subnet).any(|subnet| subnet.contains(address.into()))
+        let is_within = |subnet: &Subnet| subnet.contains(address.into());
+        let others = || port.index.map_or(&[][..], |index| self.machine.addresses(index));
+        port.own.subnet.iter().any(is_within) || others().iter().any(is_within)
     }
 }
 
@@ -240,6 +244,7 @@ impl Daemon {
             counters: Counters::default(),
             older_heard: BTreeSet::new(),
             sessions: BTreeMap::new(),
+            overrides: Overrides::default(),
             due: Due::default(),
             stale: Stale::default(),
             said: Said::default(),
@@ -373,11 +378,13 @@ impl Daemon {
         if self.core.sends_nothing() {
             return;
         }
+        self.watch_overrides();
         let Daemon { core, kernel, ports, policy, counters, settings, machine, .. } = self;
         let mut packing = Packing::default();
         core.each_packet(|target, bytes| {
-            let Some(to) = target.iface() else {
-                return send_unicast(kernel.as_mut(), counters, bytes);
+            let to = match target.iface() {
+                Some(to) => to,
+                None => return send_unicast(kernel.as_mut(), counters, bytes),
             };
             let index = ports.get(to as usize).and_then(|port| port.index).filter(|_| settings.packs);
             let most = index.map_or(0, |index| machine.mtu(index).min(MOST_PACKED));
@@ -394,6 +401,7 @@ impl Daemon {
 
     /// Sends it with a packet itself in place of its stand-in.
     fn leave_as(&mut self, itself: &[u8]) {
+        self.watch_overrides();
         let Daemon { core, kernel, ports, policy, counters, .. } = self;
         counters.stood_in += 1;
         let mut send = |to: u32, bytes: &[u8], kernel: &mut dyn Kernel| {

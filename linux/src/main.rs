@@ -18,6 +18,7 @@ mod netlink;
 mod notify;
 mod older;
 mod outgoing;
+mod overrides;
 mod packed;
 mod packet;
 mod plane;

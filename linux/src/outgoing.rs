@@ -15,6 +15,10 @@ pub struct Outgoing {
 impl Outgoing {
     /// Takes what the router has to send.
     pub fn take(&mut self, router: &mut Router) {
+        // Most events send nothing, and no room is made for them.
+        if router.packet_count() == 0 {
+            return;
+        }
         let mut room = [0; MOST_BYTES];
         while let Some((target, bytes)) = router.take(&mut room) {
             self.bytes.extend_from_slice(bytes);

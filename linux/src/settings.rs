@@ -116,6 +116,8 @@ pub struct HelloSettings {
 
 /// Hello_Period, in tenths of a second.
 const HELLO_PERIOD: u32 = 300;
+/// t_override_default, in ms (RFC 7761, 4.11): routers go by it too where one of their link says no other.
+const OVERRIDE: u32 = 2500;
 
 impl HelloSettings {
     /// In ms; `None` where the library's own are enough.
@@ -134,6 +136,8 @@ pub struct InterfaceSettings {
     pub propagation: u32,
     /// In ms.
     pub override_interval: u32,
+    /// What overrides a Prune(S,G,rpt) leaves a second time.
+    pub overrides_twice: bool,
     pub hello: HelloSettings,
     /// Sessions with the neighbours there.
     pub bfd: Option<Times>,
@@ -144,6 +148,12 @@ pub struct InterfaceSettings {
 }
 
 impl InterfaceSettings {
+    /// How long after a Prune(S,G,rpt) what overrides it leaves a second time, in ms; `None` where it doesn't. Until the
+    /// Prune takes effect the link's propagation delay is left.
+    pub fn overrides_again(&self) -> Option<u64> {
+        self.overrides_twice.then(|| self.override_interval.min(OVERRIDE).into())
+    }
+
     /// Whether it may be on no link, where it takes no virtual interface of the kernel's.
     pub fn may_be_apart(&self) -> bool {
         let is_alone = self.address.map_or(false, |subnet| subnet.length == 32);
@@ -330,6 +340,7 @@ struct InterfaceTable {
     propagation: Whole,
     #[serde(rename = "override")]
     override_interval: Whole,
+    override_twice: Option<bool>,
     hello_interval: Option<Spanned<f64>>,
     hello_holdtime: Whole,
     bfd: Option<bool>,
@@ -580,7 +591,8 @@ impl Check<'_> {
             name,
             priority: table.priority.unwrap_or(1),
             propagation: self.within("propagation", &table.propagation, 500, 0, 32767),
-            override_interval: self.within("override", &table.override_interval, 2500, 0, 65535),
+            override_interval: self.within("override", &table.override_interval, OVERRIDE, 0, 65535),
+            overrides_twice: table.override_twice.unwrap_or(false),
             hello: self.hello(table),
             bfd: self.bfd(table),
             speech: self.speech(table, older_hosts),
@@ -1004,7 +1016,7 @@ mod tests {
         let text = "limit = 9\nspt = \"never\"\nlog = \"debug\"\nsocket = \"/run/x\"\nsocket_group = \"adm\"\npack = false\nguard = false\n[metrics]\nlisten = \"[::1]:9791\"\n[igmp]\nrobustness = 3\n\
             query_interval = 20\nquery_response = 1.5\nlast_member_query = 2\nolder_hosts = \"none\"\n\
             [routes]\ntable = 7\npreference = 5\n[routes.preferences]\nstatic = 1\n\
-            [[interface]]\nname = \"a\"\naddress = \"10.0.0.1/24\"\npriority = 7\npropagation = 1\noverride = 2\nhello_interval = 0.3\nhello_holdtime = 1\nbfd = true\nbfd_interval = 100\n\
+            [[interface]]\nname = \"a\"\naddress = \"10.0.0.1/24\"\npriority = 7\npropagation = 1\noverride = 2\noverride_twice = true\nhello_interval = 0.3\nhello_holdtime = 1\nbfd = true\nbfd_interval = 100\n\
             [[rp]]\ngroups = \"239.0.0.0/8\"\naddress = \"10.0.0.1\"\n";
         let it = read(text).unwrap();
         assert_eq!((it.limit, it.stays_on_shared_tree, it.level), (9, true, LevelFilter::Debug));
@@ -1019,6 +1031,7 @@ mod tests {
             priority: 7,
             propagation: 1,
             override_interval: 2,
+            overrides_twice: true,
             hello: HelloSettings { interval: 3, holdtime: 1 },
             bfd: Some(Times { interval: 100, multiplier: 3 }),
             speech: Speech { older_hosts: OlderHosts::Nobody, queries: QueryVersion::Three },

@@ -19,7 +19,8 @@ const HOLDTIME_AT: usize = 12;
 const GROUP_ADDRESS: usize = 8;
 const GROUP_HEAD: usize = 12;
 const SOURCE: usize = 8;
-/// Of an encoded source address: WC and RPT.
+/// Of an encoded source address: S, WC and RPT.
+const SPARSE: u8 = 4;
 const WILDCARD: u8 = 2;
 const RPT: u8 = 1;
 const REPORT: u8 = 0x22;
@@ -199,6 +200,16 @@ pub struct JoinPrune {
     pub entries: Vec<Entry>,
 }
 
+/// A Join(S,G,rpt) as part of a Join/Prune: to the same neighbour, for as long.
+pub fn rpt_join(packet: Packet, group: Ipv4Addr, source: Ipv4Addr) -> Vec<u8> {
+    let mut own = packet.content()[..GROUPS_AT].to_vec();
+    own[NUMBER_OF_GROUPS_AT] = 1;
+    own.extend([[1, 0, 0, 32], group.octets(), [0, 1, 0, 0]].concat());
+    own.extend([[1, 0, SPARSE | RPT, 32], source.octets()].concat());
+    put_checksum(&mut own, 2);
+    with_content(packet.header(), &own)
+}
+
 /// A Join/Prune; `None` where the packet is none, or isn't whole.
 pub fn join_prune(packet: Packet) -> Option<JoinPrune> {
     let content = packet.content();
@@ -348,6 +359,14 @@ mod tests {
         let kept = with_entries(packet, &[found.entries[0].clone(), found.entries[2].clone()]);
         let one = [&[1, 0, 0, 32, 239, 1, 1, 1, 0, 1, 0, 0][..], &[1, 0, 4, 32, 10, 1, 0, 0]].concat();
         assert_eq!(kept, join_prune_of(&[one, group(2, 0)]));
+    }
+
+    #[test]
+    fn a_source_can_be_joined_on_the_shared_tree_as_part_of_another_message() {
+        let whole = join_prune_of(&[group(1, 1), group(2, 0)]);
+        let made = rpt_join(Packet::read(&whole).unwrap(), [239, 1, 1, 9].into(), [10, 1, 0, 7].into());
+        let one = [&[1, 0, 0, 32, 239, 1, 1, 9, 0, 1, 0, 0][..], &[1, 0, 5, 32, 10, 1, 0, 7]].concat();
+        assert_eq!(made, join_prune_of(&[one]));
     }
 
     #[test]

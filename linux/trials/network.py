@@ -193,6 +193,12 @@ class Network:
     def start_pimd(self, place: str) -> None:
         self.pimd[place] = self.start_frr_daemon(place, "pimd")
 
+    def restart_pimd(self, place: str) -> None:
+        """It has nothing of before, and nothing waits at its sockets."""
+        self.pimd[place].kill()
+        self.pimd[place].wait()
+        self.start_pimd(place)
+
     def start_frr_daemon(self, place: str, daemon: str) -> subprocess.Popen[str]:
         room = self.room / place
         words = ["-z", room / "zserv", "--vty_socket", room, "-f", room / f"{daemon}.conf",

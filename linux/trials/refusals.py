@@ -296,7 +296,8 @@ def list_of_registers(net: Network) -> str:
 
 def igmp_in_registers(net: Network) -> str:
     """a query and a report inside Registers come to no link of the RP's unless `guard` is off, and a stream does"""
-    group, times = "239.2.7.4", 5
+    # Of no other trial: the source's DR registers a stream again only a minute after a Register-Stop.
+    group, times = "239.2.7.7", 5
 
     def carried() -> int:
         words = [sys.executable, SENDER, "to-router", HOST, "heard", 3]

@@ -400,6 +400,8 @@ def reroute(net: Network) -> None:
 def limit(net: Network) -> str:
     """at its limit the router refreshes what it knows, where a report also names what is new, and refuses that alone"""
     known, new = "239.2.8.1", "239.2.8.2"
+    # What FRR has joined in a trial before would take the group's room.
+    until("nobody joins anything any longer", 300, lambda: not net.show("joins"))
     net.stop_router()
     # Three neighbours, and a group; no quota is to be met before the limit.
     net.start_router("limit = 4\n", "max_groups = 100\n")

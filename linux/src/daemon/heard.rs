@@ -83,6 +83,7 @@ impl Daemon {
             self.neighbours.hellos.insert((number, packet.source()), (words::of(let_in), priority_of(packet)));
             self.neighbours.are_stale = true;
         }
+        self.watch_prunes(number, let_in);
         let asserted = self.asserted(number, let_in);
         let answer = self.take(Event::Frame(number, let_in))?;
         self.after(answer, let_in);

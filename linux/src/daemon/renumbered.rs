@@ -3,6 +3,7 @@
 //! in the kernel stay, and so do its entries.
 use super::{Answer, Daemon, Fatal};
 use crate::core::Given;
+use crate::overrides::Overrides;
 use crate::ports::Places;
 use log::error;
 use std::collections::BTreeMap;
@@ -68,6 +69,7 @@ impl Daemon {
             Some(number) => Some((kind, Some(there(number)?))),
             None => Some((kind, None)),
         });
+        self.overrides = Overrides::default();
         self.policy.renumber(there);
         self.plane.renumber(there);
         self.neighbours.are_stale = true;

@@ -6,7 +6,7 @@ use crate::netlink::{Change, Link, Used};
 use crate::packet::{put_checksum, with_content, IGMP, PIM, UDP};
 use crate::plane::Cache;
 use crate::routes::{Hop, KernelRoute, Kind};
-use crate::settings::{self, Subnet};
+use crate::settings;
 use std::cell::{Cell, RefCell};
 use std::collections::VecDeque;
 use std::io;
@@ -643,6 +643,7 @@ fn the_unknown_are_asked_for_anew_where_their_group_moves() {
 
 mod liveness;
 mod older;
+mod overridden;
 mod reloaded;
 mod restarted;
 mod shown;

@@ -310,6 +310,7 @@ impl Daemon {
             servers.each().filter_map(Server::due).min().map(|left| self.kernel.now() + left),
             servers.due,
             self.ports.iter().filter_map(|port| port.hello_due).min(),
+            self.overrides.due(),
             self.sessions.values().map(Session::due).min(),
         ];
         let next = times.into_iter().flatten().fold(due.look, u64::min);
@@ -402,6 +403,7 @@ impl Daemon {
             self.set_again();
         }
         self.repeat_hellos();
+        self.override_again();
         self.keep_sessions()?;
         if self.neighbours.are_stale {
             self.watch_neighbours()?;

@@ -264,13 +264,12 @@ fn pim(it: &mut Interface, place: &Place, words: &[&str]) -> bool {
 
 /// The same, of what follows `ip igmp`.
 fn igmp(it: &mut Interface, place: &Place, words: &[&str]) -> bool {
-    let with_number = |text: &str| Some(Said { place: place.clone(), value: text.parse().ok()? });
     match words {
         [] => it.has_igmp = true,
         ["version", "2"] => it.version_2 = Some(place.clone()),
-        ["query-interval", number] => it.query_interval = with_number(number),
-        ["query-max-response-time", number] => it.query_response = with_number(number),
-        ["last-member-query-interval", number] => it.last_member_query = with_number(number),
+        ["query-interval", number] => return numbered(&mut it.query_interval, place, number),
+        ["query-max-response-time", number] => return numbered(&mut it.query_response, place, number),
+        ["last-member-query-interval", number] => return numbered(&mut it.last_member_query, place, number),
         ["join" | "join-group", group, source @ ..] => {
             let read = join(group, source);
             it.joins.extend(read.map(|value| Said { place: place.clone(), value }));
@@ -279,6 +278,15 @@ fn igmp(it: &mut Interface, place: &Place, words: &[&str]) -> bool {
         _ => return false,
     }
     true
+}
+
+/// Takes a number, if it is one.
+fn numbered(to: &mut Option<Said<u32>>, place: &Place, number: &str) -> bool {
+    let read = number.parse().ok();
+    if let Some(value) = read {
+        *to = Some(Said { place: place.clone(), value });
+    }
+    read.is_some()
 }
 
 fn join(group: &str, source: &[&str]) -> Option<Join> {
@@ -326,7 +334,8 @@ fn vrf_in<'a>(words: &[&'a str]) -> Option<&'a str> {
 /// The lines of `router pim` leave out what those at the top begin with.
 fn with_prefix<'a>(words: &[&'a str]) -> Vec<&'a str> {
     match words {
-        ["ip" | "ipv6" | "no", ..] => words.to_vec(),
+        ["ip" | "ipv6", ..] | ["no", "ip" | "ipv6", ..] => words.to_vec(),
+        ["no", rest @ ..] => [&["no"], &with_prefix(rest)[..]].concat(),
         ["msdp", ..] => [&["ip"], words].concat(),
         _ => [&["ip", "pim"], words].concat(),
     }

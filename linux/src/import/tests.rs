@@ -297,6 +297,18 @@ fn routes_are_read_and_what_finds_them() {
 }
 
 #[test]
+fn numbers_that_are_none_and_what_router_pim_takes_back_are_said() {
+    let text =
+        "interface eth0\n ip igmp\n ip igmp query-interval soon\n ip igmp query-max-response-time 99999999999\n \
+        ip igmp last-member-query-interval -1\nrouter pim\n no ecmp\n no msdp peer 10.9.9.9\n no send-v6-secondary\n";
+    let (it, left) = taken(text, None);
+    assert_eq!((it.query_interval, it.query_response, it.last_member_query), (125, 100, 10));
+    let said = "ip igmp query-interval soon, ip igmp query-max-response-time 99999999999, \
+        ip igmp last-member-query-interval -1, no ecmp, no msdp peer 10.9.9.9";
+    assert_eq!(left.join(", "), said);
+}
+
+#[test]
 fn a_block_goes_on_behind_blanks_and_comments() {
     let (it, left) = taken("interface eth0\n\n ip pim\n! more\n exit-address-family\n ip pim drpriority 7\n", None);
     assert_eq!((it.interfaces[0].priority, it.interfaces.len(), left.len()), (7, 1, 0));
