@@ -10,8 +10,10 @@ import json
 import multiprocessing
 import signal
 from collections import Counter
-from collections.abc import Iterable, Iterator
+from collections.abc import Callable, Iterable, Iterator
 from dataclasses import dataclass, field
+from multiprocessing.connection import Connection, wait
+from multiprocessing.process import BaseProcess
 from typing import TYPE_CHECKING, Any
 
 from viqeshor.lab.topology import ways
@@ -223,31 +225,54 @@ class Trial:
         return labfile.told(self.net, failure.what if failure else "no failure")
 
 
-CURRENT = None
-
-
 def each_alone(trial: Trial, method: str, chosen: Iterable[Failure | None], jobs: int) -> Iterator[tuple[int, Any]]:
     """What a method of a trial answers to each failure, with the failure's place, as soon as it is there: each in a
-    process of its own."""
-    global CURRENT
-    CURRENT = trial
-    with multiprocessing.get_context("fork").Pool(jobs, undisturbed, maxtasksperchild=1) as pool:
-        yield from pool.imap_unordered(Task(method), enumerate(chosen), chunksize=1)
+    process of its own, at most `jobs` at a time. Those that still run when nobody reads on are ended."""
+    call, waiting = getattr(trial, method), list(enumerate(chosen))
+    running: dict[Connection, tuple[int, BaseProcess]] = {}
+    try:
+        while waiting or running:
+            while waiting and len(running) < jobs:
+                place, failure = waiting.pop(0)
+                answer, process = begun(call, failure)
+                running[answer] = place, process
+            for answer in wait(list(running)):
+                place, process = running.pop(answer)
+                yield place, result_of(answer)
+                process.join()
+    finally:
+        for _, process in running.values():
+            process.kill()
+            process.join()
 
 
-def undisturbed() -> None:
+def begun(call: Callable[[Failure | None], Any], failure: Failure | None) -> tuple[Connection, BaseProcess]:
+    """A process that calls, and where its answer comes. No two processes share a pipe or a lock, so that one that is
+    ended never holds what another one waits for."""
+    alone = multiprocessing.get_context("fork")
+    answer, given = alone.Pipe(duplex=False)
+    process = alone.Process(target=answered, args=(call, failure, given), daemon=True)
+    process.start()
+    given.close()
+    return answer, process
+
+
+def answered(call: Callable[[Failure | None], Any], failure: Failure | None, given: Connection) -> None:
     """Ctrl-c is for whoever handed out the work."""
     signal.signal(signal.SIGINT, signal.SIG_IGN)
+    try:
+        given.send(call(failure))
+    except Exception as error:
+        given.send(error)
 
 
-@dataclass(frozen=True)
-class Task:
-    """A call that a process is handed."""
-    method: str
-
-    def __call__(self, placed: tuple[int, Failure | None]) -> tuple[int, Any]:
-        place, failure = placed
-        return place, getattr(CURRENT, self.method)(failure)
+def result_of(answer: Connection) -> Any:
+    """What a process answered. Raises what it failed with, and EOFError where it was ended."""
+    with answer:
+        result = answer.recv()
+    if isinstance(result, Exception):
+        raise result
+    return result
 
 
 # ---- outages as text, for a run of a process elsewhere
