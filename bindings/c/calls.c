@@ -11,10 +11,6 @@ static const uint32_t no_address = 0;
 static const struct viq_route no_route = {0, 33, 0, 0, 0, 0};
 static const struct viq_range no_range = {0, 33, 0};
 
-struct address_list {
-    const uint32_t *at;
-    size_t count;
-};
 struct route_list {
     const struct viq_route *at;
     size_t count;
@@ -23,21 +19,6 @@ struct range_list {
     const struct viq_range *at;
     size_t count;
 };
-
-static struct viq_core_settings core_of(const struct viq_settings *settings) {
-    struct viq_core_settings core = {settings->limit,
-                                     settings->robustness,
-                                     settings->query_interval,
-                                     settings->query_response_interval,
-                                     settings->last_member_query_interval,
-                                     settings->stays_on_shared_tree};
-    return core;
-}
-
-static struct address_list addresses_of(const struct viq_settings *settings) {
-    struct address_list given = {settings->addresses, settings->address_count}, refused = {&no_address, 1};
-    return given.count <= VIQ_MOST_ADDRESSES ? given : refused;
-}
 
 static struct route_list routes_of(const struct viq_route *routes, size_t count) {
     struct route_list given = {routes, count}, refused = {&no_route, 1};
@@ -49,19 +30,36 @@ static struct range_list ranges_of(const struct viq_range *ranges, size_t count)
     return count <= VIQ_MOST_RANGES ? given : refused;
 }
 
+static struct viq_core_configuration core_of(const struct viq_settings *settings,
+                                             const struct viq_interface *interfaces, size_t interface_count,
+                                             const struct viq_route *routes, size_t route_count,
+                                             const struct viq_range *ranges, size_t range_count) {
+    bool has_addresses = settings->address_count <= VIQ_MOST_ADDRESSES;
+    struct route_list given_routes = routes_of(routes, route_count);
+    struct range_list given_ranges = ranges_of(ranges, range_count);
+    struct viq_core_configuration core = {
+        {settings->limit, settings->robustness, settings->query_interval, settings->query_response_interval,
+         settings->last_member_query_interval, settings->stays_on_shared_tree},
+        has_addresses ? settings->addresses : &no_address,
+        has_addresses ? settings->address_count : 1,
+        interfaces,
+        interface_count <= VIQ_MOST_INTERFACES ? interface_count : 0,
+        given_routes.at,
+        given_routes.count,
+        given_ranges.at,
+        given_ranges.count};
+    return core;
+}
+
 uint32_t viq_new(struct viq_router **router, uint32_t abi, const struct viq_settings *settings,
                  const struct viq_interface *interfaces, size_t interface_count, const struct viq_route *routes,
                  size_t route_count, const struct viq_range *ranges, size_t range_count) {
     struct viq_core core = {NULL, false};
     *router = NULL;
     if (abi != VIQ_ABI) return VIQ_OTHER_ABI;
-    if (interface_count > VIQ_MOST_INTERFACES) interface_count = 0;
-    struct viq_core_settings core_settings = core_of(settings);
-    struct address_list addresses = addresses_of(settings);
-    struct route_list given_routes = routes_of(routes, route_count);
-    struct range_list given_ranges = ranges_of(ranges, range_count);
-    uint32_t answer = viq_core_new(&core, &core_settings, addresses.at, addresses.count, interfaces, interface_count,
-                                   given_routes.at, given_routes.count, given_ranges.at, given_ranges.count);
+    struct viq_core_configuration given =
+        core_of(settings, interfaces, interface_count, routes, route_count, ranges, range_count);
+    uint32_t answer = viq_core_new(&core, &given);
     if (core.is_there) *router = (struct viq_router *)core.place;
     return answer;
 }
@@ -69,28 +67,19 @@ uint32_t viq_new(struct viq_router **router, uint32_t abi, const struct viq_sett
 uint32_t viq_reload(struct viq_router *router, const struct viq_settings *settings,
                     const struct viq_interface *interfaces, size_t interface_count, const struct viq_route *routes,
                     size_t route_count, const struct viq_range *ranges, size_t range_count, struct viq_draw draw) {
-    if (interface_count > VIQ_MOST_INTERFACES) interface_count = 0;
-    struct viq_core_settings core_settings = core_of(settings);
-    struct address_list addresses = addresses_of(settings);
-    struct route_list given_routes = routes_of(routes, route_count);
-    struct range_list given_ranges = ranges_of(ranges, range_count);
-    return viq_core_reload(CORE(router), draw.bits, &core_settings, addresses.at, addresses.count, interfaces,
-                           interface_count, given_routes.at, given_routes.count, given_ranges.at, given_ranges.count);
+    struct viq_core_configuration given =
+        core_of(settings, interfaces, interface_count, routes, route_count, ranges, range_count);
+    return viq_core_reload(CORE(router), draw.bits, &given);
 }
 
 uint32_t viq_reload_places(struct viq_router *router, const struct viq_settings *settings,
                            const struct viq_interface *interfaces, size_t interface_count,
                            const struct viq_route *routes, size_t route_count, const struct viq_range *ranges,
                            size_t range_count, const uint32_t *places, size_t place_count, struct viq_draw draw) {
-    if (interface_count > VIQ_MOST_INTERFACES) interface_count = 0;
     if (place_count > VIQ_MOST_INTERFACES) place_count = 0;
-    struct viq_core_settings core_settings = core_of(settings);
-    struct address_list addresses = addresses_of(settings);
-    struct route_list given_routes = routes_of(routes, route_count);
-    struct range_list given_ranges = ranges_of(ranges, range_count);
-    return viq_core_reload_places(CORE(router), draw.bits, &core_settings, addresses.at, addresses.count, interfaces,
-                                  interface_count, given_routes.at, given_routes.count, given_ranges.at,
-                                  given_ranges.count, places, place_count);
+    struct viq_core_configuration given =
+        core_of(settings, interfaces, interface_count, routes, route_count, ranges, range_count);
+    return viq_core_reload_places(CORE(router), draw.bits, &given, places, place_count);
 }
 
 uint32_t viq_restore(struct viq_router **router, uint32_t abi, const uint8_t *bytes, size_t length) {
@@ -267,14 +256,9 @@ uint32_t viq_record_reload(const struct viq_call *call, const struct viq_setting
                            const struct viq_interface *interfaces, size_t interface_count,
                            const struct viq_route *routes, size_t route_count, const struct viq_range *ranges,
                            size_t range_count, uint8_t *room, size_t room_length, size_t *size) {
-    if (interface_count > VIQ_MOST_INTERFACES) interface_count = 0;
-    struct viq_core_settings core_settings = core_of(settings);
-    struct address_list addresses = addresses_of(settings);
-    struct route_list given_routes = routes_of(routes, route_count);
-    struct range_list given_ranges = ranges_of(ranges, range_count);
-    return viq_core_record_reload(call, &core_settings, addresses.at, addresses.count, interfaces, interface_count,
-                                  given_routes.at, given_routes.count, given_ranges.at, given_ranges.count, room,
-                                  room_length, size);
+    struct viq_core_configuration given =
+        core_of(settings, interfaces, interface_count, routes, route_count, ranges, range_count);
+    return viq_core_record_reload(call, &given, room, room_length, size);
 }
 
 uint32_t viq_record_reload_places(const struct viq_call *call, const struct viq_settings *settings,
@@ -282,15 +266,10 @@ uint32_t viq_record_reload_places(const struct viq_call *call, const struct viq_
                                   const struct viq_route *routes, size_t route_count, const struct viq_range *ranges,
                                   size_t range_count, const uint32_t *places, size_t place_count, uint8_t *room,
                                   size_t room_length, size_t *size) {
-    if (interface_count > VIQ_MOST_INTERFACES) interface_count = 0;
     if (place_count > VIQ_MOST_INTERFACES) place_count = 0;
-    struct viq_core_settings core_settings = core_of(settings);
-    struct address_list addresses = addresses_of(settings);
-    struct route_list given_routes = routes_of(routes, route_count);
-    struct range_list given_ranges = ranges_of(ranges, range_count);
-    return viq_core_record_reload_places(call, &core_settings, addresses.at, addresses.count, interfaces,
-                                         interface_count, given_routes.at, given_routes.count, given_ranges.at,
-                                         given_ranges.count, places, place_count, room, room_length, size);
+    struct viq_core_configuration given =
+        core_of(settings, interfaces, interface_count, routes, route_count, ranges, range_count);
+    return viq_core_record_reload_places(call, &given, places, place_count, room, room_length, size);
 }
 
 uint32_t viq_sum(const struct viq_router *router) { return viq_core_sum(CORE(router)); }

@@ -11,7 +11,7 @@ struct viq_core {
     bool is_there;
 };
 
-/* The settings but the addresses, which are a list of the calls. */
+/* The settings but the addresses. */
 struct viq_core_settings {
     uint32_t limit;
     uint32_t robustness;
@@ -19,6 +19,19 @@ struct viq_core_settings {
     uint32_t query_response_interval;
     uint32_t last_member_query_interval;
     bool stays_on_shared_tree;
+};
+
+/* A configuration: the settings, and the lists that stand beside them. */
+struct viq_core_configuration {
+    struct viq_core_settings settings;
+    const uint32_t *addresses;
+    size_t address_count;
+    const struct viq_interface *interfaces;
+    size_t interface_count;
+    const struct viq_route *routes;
+    size_t route_count;
+    const struct viq_range *ranges;
+    size_t range_count;
 };
 
 /* A row with room for the columns of each kind; those of other kinds than the row's are 0. */
@@ -34,19 +47,10 @@ struct viq_core_row {
     struct viq_active_row active;
 };
 
-uint32_t viq_core_new(struct viq_core *router, const struct viq_core_settings *settings, const uint32_t *addresses,
-                      size_t address_count, const struct viq_interface *interfaces, size_t interface_count,
-                      const struct viq_route *routes, size_t route_count, const struct viq_range *ranges,
-                      size_t range_count);
-uint32_t viq_core_reload(struct viq_core *router, uint32_t draw, const struct viq_core_settings *settings,
-                         const uint32_t *addresses, size_t address_count, const struct viq_interface *interfaces,
-                         size_t interface_count, const struct viq_route *routes, size_t route_count,
-                         const struct viq_range *ranges, size_t range_count);
-uint32_t viq_core_reload_places(struct viq_core *router, uint32_t draw, const struct viq_core_settings *settings,
-                                const uint32_t *addresses, size_t address_count,
-                                const struct viq_interface *interfaces, size_t interface_count,
-                                const struct viq_route *routes, size_t route_count, const struct viq_range *ranges,
-                                size_t range_count, const uint32_t *places, size_t place_count);
+uint32_t viq_core_new(struct viq_core *router, const struct viq_core_configuration *given);
+uint32_t viq_core_reload(struct viq_core *router, uint32_t draw, const struct viq_core_configuration *given);
+uint32_t viq_core_reload_places(struct viq_core *router, uint32_t draw, const struct viq_core_configuration *given,
+                                const uint32_t *places, size_t place_count);
 uint32_t viq_core_restore(struct viq_core *router, const uint8_t *bytes, size_t length);
 uint32_t viq_core_save(struct viq_core *router, uint8_t *room, size_t room_length, size_t *size);
 void viq_core_end(struct viq_core *router);
@@ -88,17 +92,11 @@ uint32_t viq_core_record_routes(const struct viq_call *call, const struct viq_ro
                                 uint8_t *room, size_t room_length, size_t *size);
 uint32_t viq_core_record_ranges(const struct viq_call *call, const struct viq_range *ranges, size_t count,
                                 uint8_t *room, size_t room_length, size_t *size);
-uint32_t viq_core_record_reload(const struct viq_call *call, const struct viq_core_settings *settings,
-                                const uint32_t *addresses, size_t address_count,
-                                const struct viq_interface *interfaces, size_t interface_count,
-                                const struct viq_route *routes, size_t route_count, const struct viq_range *ranges,
-                                size_t range_count, uint8_t *room, size_t room_length, size_t *size);
-uint32_t viq_core_record_reload_places(const struct viq_call *call, const struct viq_core_settings *settings,
-                                       const uint32_t *addresses, size_t address_count,
-                                       const struct viq_interface *interfaces, size_t interface_count,
-                                       const struct viq_route *routes, size_t route_count,
-                                       const struct viq_range *ranges, size_t range_count, const uint32_t *places,
-                                       size_t place_count, uint8_t *room, size_t room_length, size_t *size);
+uint32_t viq_core_record_reload(const struct viq_call *call, const struct viq_core_configuration *given,
+                                uint8_t *room, size_t room_length, size_t *size);
+uint32_t viq_core_record_reload_places(const struct viq_call *call, const struct viq_core_configuration *given,
+                                       const uint32_t *places, size_t place_count, uint8_t *room,
+                                       size_t room_length, size_t *size);
 uint32_t viq_core_sum(struct viq_core *router);
 uint64_t viq_core_probes(struct viq_core *router);
 uint64_t viq_core_touched(struct viq_core *router);

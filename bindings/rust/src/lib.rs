@@ -533,7 +533,7 @@ pub fn refused_range(ranges: &[Range]) -> Option<RefusedAt> {
     is_refused.then_some(RefusedAt { index: at.index, reason: at.reason })
 }
 
-// ---- what is told
+// ---- what the router answers
 
 /// Where a packet goes.
 #[derive(Clone, Copy, Debug, PartialEq, Eq, Hash)]
@@ -547,7 +547,7 @@ pub enum Target {
 }
 
 impl Target {
-    fn told(of: &raw::Packet) -> Target {
+    fn from_c(of: &raw::Packet) -> Target {
         match of.kind {
             raw::COPY => Target::Copy(of.iface),
             raw::UNICAST => Target::Unicast(of.destination.into()),
@@ -716,7 +716,7 @@ pub struct OlderRow {
 }
 
 impl OlderRow {
-    fn told(of: raw::OlderRow) -> OlderRow {
+    fn from_c(of: raw::OlderRow) -> OlderRow {
         OlderRow {
             iface: of.iface,
             group: of.group.into(),
@@ -1299,7 +1299,7 @@ impl Router {
         let mut packet = raw::Packet::default();
         // SAFETY: the router is there and borrowed alone; the room is passed as its pointer and its length.
         let is_taken = unsafe { viq_take(self.at_mut(), &mut packet, room.as_mut_ptr(), room.len()) };
-        is_taken.then(|| (Target::told(&packet), &room[..packet.length]))
+        is_taken.then(|| (Target::from_c(&packet), &room[..packet.length]))
     }
 
     /// Takes them one by one, in the order in which they are to leave.
@@ -1351,7 +1351,7 @@ impl Router {
     fn row(&self, index: usize) -> Option<Row> {
         let mut row = rows::raw::Row::default();
         // SAFETY: the router is there, and writes the member of the row's table where it answers that there is a row.
-        unsafe { viq_row(self.at(), index, &mut row).then(|| Row::told(&row)).flatten() }
+        unsafe { viq_row(self.at(), index, &mut row).then(|| Row::from_c(&row)).flatten() }
     }
 
     /// How data of a source to a group is forwarded, as the forwarding cache has it; `None` where there is no fact of
@@ -1368,21 +1368,21 @@ impl Router {
     pub fn tree(&self, group: Ipv4Addr) -> Option<Tree> {
         let mut told = trees::raw::Tree::default();
         // SAFETY: the router is there.
-        unsafe { viq_tree(self.at(), group.into(), &mut told) }.then(|| Tree::told(told))
+        unsafe { viq_tree(self.at(), group.into(), &mut told) }.then(|| Tree::from_c(told))
     }
 
     /// The macros of (S,G) and of (S,G,rpt) of any source of any group, whether it has a fact or not.
     pub fn source_tree(&self, source: Ipv4Addr, group: Ipv4Addr) -> Option<SourceTree> {
         let mut told = trees::raw::SourceTree::default();
         // SAFETY: the router is there.
-        unsafe { viq_source_tree(self.at(), source.into(), group.into(), &mut told) }.then(|| SourceTree::told(told))
+        unsafe { viq_source_tree(self.at(), source.into(), group.into(), &mut told) }.then(|| SourceTree::from_c(told))
     }
 
     /// An interface with its DR and its querier; `None` also where it isn't configured.
     pub fn link(&self, iface: u32) -> Option<Link> {
         let mut told = trees::raw::Link::default();
         // SAFETY: the router is there.
-        unsafe { viq_link(self.at(), iface, &mut told) }.then(|| Link::told(told))
+        unsafe { viq_link(self.at(), iface, &mut told) }.then(|| Link::from_c(told))
     }
 
     /// A neighbour with the options of its last Hello; `None` also where there is none of this address. The table of
@@ -1390,7 +1390,7 @@ impl Router {
     pub fn neighbour(&self, iface: u32, address: Ipv4Addr) -> Option<Neighbour> {
         let mut told = trees::raw::Neighbour::default();
         // SAFETY: the router is there.
-        unsafe { viq_neighbour(self.at(), iface, address.into(), &mut told) }.then(|| Neighbour::told(told))
+        unsafe { viq_neighbour(self.at(), iface, address.into(), &mut told) }.then(|| Neighbour::from_c(told))
     }
 
     /// Sets whether the guard is on, as it is in a new router. It stops by `Reason::Guarded` what would be forwarded as
@@ -1430,7 +1430,7 @@ impl Router {
     fn older_row(&self, index: usize) -> Option<OlderRow> {
         let mut row = raw::OlderRow::default();
         // SAFETY: the router is there.
-        unsafe { viq_older_row(self.at(), index, &mut row) }.then(|| OlderRow::told(row))
+        unsafe { viq_older_row(self.at(), index, &mut row) }.then(|| OlderRow::from_c(row))
     }
 
     // ---- a data plane: `include/viqeshor/plane.h` says what one owes

@@ -223,25 +223,25 @@ fn register_state(number: u32) -> Option<RegisterState> {
 }
 
 impl NeighbourRow {
-    fn told(of: raw::Neighbour) -> NeighbourRow {
+    fn from_c(of: raw::Neighbour) -> NeighbourRow {
         NeighbourRow { iface: of.iface, address: of.address.into(), end: ends(of.end) }
     }
 }
 
 impl GroupRow {
-    fn told(of: raw::Group) -> GroupRow {
+    fn from_c(of: raw::Group) -> GroupRow {
         GroupRow { iface: of.iface, group: of.group.into(), is_exclude: of.is_exclude, end: ends(of.end) }
     }
 }
 
 impl SourceRow {
-    fn told(of: raw::Source) -> SourceRow {
+    fn from_c(of: raw::Source) -> SourceRow {
         SourceRow { iface: of.iface, group: of.group.into(), source: of.source.into(), end: ends(of.end) }
     }
 }
 
 impl DownstreamRow {
-    fn told(of: raw::Downstream) -> DownstreamRow {
+    fn from_c(of: raw::Downstream) -> DownstreamRow {
         DownstreamRow {
             iface: of.iface,
             group: of.group.into(),
@@ -255,7 +255,7 @@ impl DownstreamRow {
 }
 
 impl AssertRow {
-    fn told(of: raw::Assert) -> AssertRow {
+    fn from_c(of: raw::Assert) -> AssertRow {
         AssertRow {
             iface: of.iface,
             group: of.group.into(),
@@ -268,19 +268,19 @@ impl AssertRow {
 }
 
 impl UpstreamRow {
-    fn told(of: raw::Upstream) -> UpstreamRow {
+    fn from_c(of: raw::Upstream) -> UpstreamRow {
         UpstreamRow { group: of.group.into(), source: source_of(of.source), next_join: of.next_join }
     }
 }
 
 impl RptRow {
-    fn told(of: raw::Rpt) -> RptRow {
+    fn from_c(of: raw::Rpt) -> RptRow {
         RptRow { group: of.group.into(), source: of.source.into(), is_pruned: of.is_pruned }
     }
 }
 
 impl ActiveRow {
-    fn told(of: raw::Active) -> ActiveRow {
+    fn from_c(of: raw::Active) -> ActiveRow {
         ActiveRow {
             group: of.group.into(),
             source: of.source.into(),
@@ -297,19 +297,19 @@ impl Row {
     /// # Safety
     ///
     /// The member of the row's table is written.
-    pub(crate) unsafe fn told(row: &raw::Row) -> Option<Row> {
+    pub(crate) unsafe fn from_c(row: &raw::Row) -> Option<Row> {
         let letter = u8::try_from(row.table).ok()?;
         // SAFETY: the caller says so of the member of this table.
         unsafe {
             match letter {
-                b'N' => Some(Row::Neighbour(NeighbourRow::told(row.of.neighbour))),
-                b'G' => Some(Row::Group(GroupRow::told(row.of.group))),
-                b'S' => Some(Row::Source(SourceRow::told(row.of.source))),
-                b'D' => Some(Row::Downstream(DownstreamRow::told(row.of.downstream))),
-                b'A' => Some(Row::Assert(AssertRow::told(row.of.asserted))),
-                b'U' => Some(Row::Upstream(UpstreamRow::told(row.of.upstream))),
-                b'R' => Some(Row::Rpt(RptRow::told(row.of.rpt))),
-                b'F' => Some(Row::Active(ActiveRow::told(row.of.active))),
+                b'N' => Some(Row::Neighbour(NeighbourRow::from_c(row.of.neighbour))),
+                b'G' => Some(Row::Group(GroupRow::from_c(row.of.group))),
+                b'S' => Some(Row::Source(SourceRow::from_c(row.of.source))),
+                b'D' => Some(Row::Downstream(DownstreamRow::from_c(row.of.downstream))),
+                b'A' => Some(Row::Assert(AssertRow::from_c(row.of.asserted))),
+                b'U' => Some(Row::Upstream(UpstreamRow::from_c(row.of.upstream))),
+                b'R' => Some(Row::Rpt(RptRow::from_c(row.of.rpt))),
+                b'F' => Some(Row::Active(ActiveRow::from_c(row.of.active))),
                 _ => None,
             }
         }

@@ -358,7 +358,7 @@ fn rpf(cause: u32, neighbour: raw::Hop) -> Rpf {
 }
 
 impl Tree {
-    pub(crate) fn told(of: raw::Tree) -> Tree {
+    pub(crate) fn from_c(of: raw::Tree) -> Tree {
         Tree {
             rp: number(of.rp).map(Ipv4Addr::from),
             path: path(of.path),
@@ -375,7 +375,7 @@ impl Tree {
 }
 
 impl SourceTree {
-    pub(crate) fn told(of: raw::SourceTree) -> SourceTree {
+    pub(crate) fn from_c(of: raw::SourceTree) -> SourceTree {
         SourceTree {
             path: path(of.path),
             rpf: rpf(of.rpf_cause, of.rpf_neighbour),
@@ -418,14 +418,14 @@ fn querying(of: raw::Querier) -> Option<Querying> {
 }
 
 impl Link {
-    pub(crate) fn told(of: raw::Link) -> Link {
+    pub(crate) fn from_c(of: raw::Link) -> Link {
         let dr = of.is_up.then(|| of.dr.into());
         Link { is_up: of.is_up, is_dr: of.is_dr, dr, querying: querying(of.querier) }
     }
 }
 
 impl Neighbour {
-    pub(crate) fn told(of: raw::Neighbour) -> Neighbour {
+    pub(crate) fn from_c(of: raw::Neighbour) -> Neighbour {
         let delay = of.lan_delay;
         Neighbour {
             end: ends(of.end),

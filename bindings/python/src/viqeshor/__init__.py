@@ -44,7 +44,7 @@ from viqeshor.rows import (
     Row,
     RptRow,
     SourceRow,
-    ToldRow,
+    CRow,
     UpstreamRow,
     numbers,
     row_of,
@@ -229,15 +229,15 @@ class Draw(Structure):
     _fields_ = numbers("bits")
 
 
-class ToldInterface(Structure):
+class CInterface(Structure):
     _fields_ = numbers("address", "length", "priority", "propagation_delay", "override_interval")
 
 
-class ToldRoute(Structure):
+class CRoute(Structure):
     _fields_ = numbers("prefix", "length", "next_hop", "iface", "preference", "metric")
 
 
-class ToldRange(Structure):
+class CRange(Structure):
     _fields_ = numbers("prefix", "length", "rp")
 
 
@@ -250,15 +250,15 @@ class Settings(Structure):
     ]
 
 
-class ToldPacket(Structure):
+class CPacket(Structure):
     _fields_ = [*numbers("kind", "iface", "destination"), ("length", c_size_t)]
 
 
-class ToldOlderRow(Structure):
+class COlderRow(Structure):
     _fields_ = [*numbers("iface", "group", "mode"), ("one_end", c_uint64), ("two_end", c_uint64)]
 
 
-class ToldForwarding(Structure):
+class CForwarding(Structure):
     _fields_ = [
         ("rpf", c_uint32),
         ("shared_rpf", c_uint32),
@@ -270,7 +270,7 @@ class ToldForwarding(Structure):
     ]
 
 
-class ToldPlaneRow(Structure):
+class CPlaneRow(Structure):
     _fields_ = [("is_known", c_bool), ("incoming", c_uint32), ("outgoing", Words), ("alive", Words), ("to_core", Words)]
 
 
@@ -286,7 +286,7 @@ class GivenCall(Structure):
     ]
 
 
-class ToldName(Structure):
+class CName(Structure):
     _fields_ = numbers("source", "group")
 
 
@@ -294,7 +294,7 @@ class RefusedAt(Structure):
     _fields_ = [("index", c_size_t), ("reason", c_uint32)]
 
 
-# ---- what is told
+# ---- what the router answers
 
 KINDS = {1: "frame", 2: "copy", 3: "unicast"}
 
@@ -370,27 +370,27 @@ CALLS: dict[str, tuple[list[Any], Any]] = {
     "down": ([c_uint32, Draw], c_uint32),
     "routes": ([*LIST, Draw], c_uint32),
     "ranges": ([*LIST, Draw], c_uint32),
-    "take": ([POINTER(ToldPacket), POINTER(c_uint8), c_size_t], c_bool),
+    "take": ([POINTER(CPacket), POINTER(c_uint8), c_size_t], c_bool),
     "clear": ([], None),
     "copies": ([], c_uint32),
     "next_moment": ([], c_uint64),
     "read": ([c_uint8], c_uint32),
     "rows": ([], c_size_t),
-    "row": ([c_size_t, POINTER(ToldRow)], c_bool),
+    "row": ([c_size_t, POINTER(CRow)], c_bool),
     "older": ([c_uint32, c_uint32], c_uint32),
     "query_version": ([c_uint32, c_uint32], c_uint32),
     "guard": ([c_uint32], c_uint32),
     "older_read": ([], c_uint32),
     "older_rows": ([], c_size_t),
-    "older_row": ([c_size_t, POINTER(ToldOlderRow)], c_bool),
-    "cached": ([*SOURCE, POINTER(ToldForwarding)], c_bool),
-    "tree": ([c_uint32, POINTER(trees.ToldTree)], c_bool),
-    "source_tree": ([*SOURCE, POINTER(trees.ToldSourceTree)], c_bool),
-    "link": ([c_uint32, POINTER(trees.ToldLink)], c_bool),
-    "neighbour": ([c_uint32, c_uint32, POINTER(trees.ToldNeighbour)], c_bool),
-    "offload": ([*SOURCE, POINTER(ToldPlaneRow)], c_bool),
+    "older_row": ([c_size_t, POINTER(COlderRow)], c_bool),
+    "cached": ([*SOURCE, POINTER(CForwarding)], c_bool),
+    "tree": ([c_uint32, POINTER(trees.CTree)], c_bool),
+    "source_tree": ([*SOURCE, POINTER(trees.CSourceTree)], c_bool),
+    "link": ([c_uint32, POINTER(trees.CLink)], c_bool),
+    "neighbour": ([c_uint32, c_uint32, POINTER(trees.CNeighbour)], c_bool),
+    "offload": ([*SOURCE, POINTER(CPlaneRow)], c_bool),
     "changed": ([], c_size_t),
-    "changed_source": ([c_size_t, POINTER(ToldName)], c_bool),
+    "changed_source": ([c_size_t, POINTER(CName)], c_bool),
     "may_differ": (SOURCE, c_bool),
     "seen": ([c_uint32, *SOURCE, Draw], c_uint32),
     "keep": ([*SOURCE, c_uint64], c_uint32),
@@ -511,18 +511,18 @@ def array(kind: Any, items: list[Any]) -> tuple[Any, int]:
     return (kind * len(items))(*items) if items else None, len(items)
 
 
-def interface_of(row: Interface) -> ToldInterface:
+def interface_of(row: Interface) -> CInterface:
     first, *rest = row if isinstance(row, tuple | list) else [row]
     own, length, *more = [*prefix(first), *rest] if "/" in str(first) else [address(first), *rest]
-    return all_numbers(ToldInterface, [own, length, *(more or (1, 500, 2500))])
+    return all_numbers(CInterface, [own, length, *(more or (1, 500, 2500))])
 
 
 def routes_of(routes: Iterable[tuple[Any, ...]]) -> tuple[Any, int]:
-    return array(ToldRoute, [all_numbers(ToldRoute, [*prefix(net), address(hop), *rest]) for net, hop, *rest in routes])
+    return array(CRoute, [all_numbers(CRoute, [*prefix(net), address(hop), *rest]) for net, hop, *rest in routes])
 
 
 def ranges_of(ranges: Iterable[tuple[str, str]]) -> tuple[Any, int]:
-    return array(ToldRange, [all_numbers(ToldRange, [*prefix(net), address(rp)]) for net, rp in ranges])
+    return array(CRange, [all_numbers(CRange, [*prefix(net), address(rp)]) for net, rp in ranges])
 
 
 def configuration(
@@ -542,7 +542,7 @@ def configuration(
     router's own that are of no interface."""
     times = (query_interval, query_response_interval, last_member_query_interval)
     whole = [number(value, 32, name) for value, (name, _) in zip((limit, robustness, *times), Settings._fields_)]
-    given = array(ToldInterface, [interface_of(row) for row in interfaces])
+    given = array(CInterface, [interface_of(row) for row in interfaces])
     own = array(c_uint32, [address(text) for text in addresses])
     return Settings(*whole, bool(stays_on_shared_tree), *own), *given, *routes_of(routes), *ranges_of(ranges)
 
@@ -692,7 +692,7 @@ class Router:
 
     def _take(self) -> None:
         """Keeps what the router has to send, which takes no other event before."""
-        told, room = ToldPacket(), self._room
+        told, room = CPacket(), self._room
         while self._call("take", byref(told), room, MOST_BYTES):
             kind = KINDS[told.kind]
             where = dotted(told.destination) if kind == "unicast" else told.iface
@@ -829,7 +829,7 @@ class Router:
     def rows(self, letter: str) -> list[Any]:
         """The rows of a table, ascending by their keys: `NeighbourRow` of N, `GroupRow` of G, `SourceRow` of S,
         `DownstreamRow` of D, `AssertRow` of A, `UpstreamRow` of U, `RptRow` of R, `ActiveRow` of F."""
-        told, rows = ToldRow(), []
+        told, rows = CRow(), []
         with self.lock:
             self._must(self._call("read", number(ord(letter), 8, "a letter")))
             for index in range(self._call("rows")):
@@ -843,7 +843,7 @@ class Router:
 
     def cached(self, source: str, group: str) -> Forwarding | None:
         """How data of a source to a group is forwarded; None where there is no fact of the source."""
-        told = ToldForwarding()
+        told = CForwarding()
         if not self._call("cached", address(source), address(group), byref(told)):
             return None
         ways = (there(way, NO_INTERFACE) for way in (told.rpf, told.shared_rpf))
@@ -854,25 +854,25 @@ class Router:
 
     def tree(self, group: str) -> Tree | None:
         """The macros of (*,G) of any group."""
-        told = trees.ToldTree()
+        told = trees.CTree()
         return trees.tree_of(told) if self._call("tree", address(group), byref(told)) else None
 
     def source_tree(self, source: str, group: str) -> SourceTree | None:
         """The macros of (S,G) and of (S,G,rpt) of any source of any group, whether it has a fact or not."""
-        told = trees.ToldSourceTree()
+        told = trees.CSourceTree()
         is_there = self._call("source_tree", address(source), address(group), byref(told))
         return trees.source_tree_of(told) if is_there else None
 
     def link(self, iface: int) -> Link | None:
         """An interface with its DR and its querier; None also where it isn't configured."""
-        told = trees.ToldLink()
+        told = trees.CLink()
         is_there = self._call("link", number(iface, 32, "an interface"), byref(told))
         return trees.link_of(told) if is_there else None
 
     def neighbour(self, iface: int, at: str) -> Neighbour | None:
         """A neighbour with the options of its last Hello; None also where there is none of this address. The table N
         lists them."""
-        told = trees.ToldNeighbour()
+        told = trees.CNeighbour()
         is_there = self._call("neighbour", number(iface, 32, "an interface"), address(at), byref(told))
         return trees.neighbour_of(told) if is_there else None
 
@@ -902,7 +902,7 @@ class Router:
 
     def older_rows(self) -> list[OlderRow]:
         """The groups that are in an older mode, ascending by interface and then by group."""
-        told, rows = ToldOlderRow(), []
+        told, rows = COlderRow(), []
         with self.lock:
             self._must(self._call("older_read"))
             for index in range(self._call("older_rows")):
@@ -915,7 +915,7 @@ class Router:
 
     def offload(self, source: str, group: str) -> PlaneRow | None:
         """What a data plane may do with the packets of a source to a group; None where all are the router's."""
-        told = ToldPlaneRow()
+        told = CPlaneRow()
         if not self._call("offload", address(source), address(group), byref(told)):
             return None
         sets = (each.interfaces() for each in (told.outgoing, told.alive, told.to_core))
@@ -924,7 +924,7 @@ class Router:
     def changed(self) -> list[tuple[str, str]]:
         """The sources whose rows may have changed at the last event, each with its group. Each is listed once,
         ascending by group and then by source."""
-        told, names = ToldName(), []
+        told, names = CName(), []
         with self.lock:
             for index in range(self._call("changed")):
                 self._call("changed_source", index, byref(told))

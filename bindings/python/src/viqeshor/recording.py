@@ -21,7 +21,7 @@ from pathlib import Path
 from typing import Any, BinaryIO, NamedTuple, Self
 
 from . import (
-    NO_PLACE, Answer, Draw, Error, GivenCall, Router, Settings, ToldInterface, ToldRange, ToldRoute, array,
+    NO_PLACE, Answer, Draw, Error, GivenCall, Router, Settings, CInterface, CRange, CRoute, array,
 )
 
 MAGIC, VERSION = b"VQRC", 5
@@ -45,25 +45,25 @@ KINDS: dict[str, tuple[str, tuple[str, ...]]] = {
 NAMES = {letter: name for name, (letter, _) in KINDS.items()}
 # These are no events: they have no draw, and send nothing.
 QUIET = ("keep", "older", "query_version", "guard")
-LISTS: dict[str, Any] = {"routes": ToldRoute, "ranges": ToldRange}
+LISTS: dict[str, Any] = {"routes": CRoute, "ranges": CRange}
 # These are given a configuration, the second one where the interfaces go too. Before version 5 the first was alone.
 RELOADS = ("reload", "reload_places")
 
 
-class ToldAddress(Structure):
+class CAddress(Structure):
     _fields_ = [("bits", c_uint32)]
 
 
-class ToldPlace(Structure):
+class CPlace(Structure):
     _fields_ = [("number", c_uint32)]
 
 
 # The settings of a reload in their order, and what follows them: so many of each as its numbers say.
 SETTINGS = [name for name, *_ in Settings._fields_ if name not in ("addresses", "address_count")]
-PARTS: tuple[Any, ...] = (ToldInterface, ToldAddress, ToldRoute, ToldRange)
-PLACED_PARTS: tuple[Any, ...] = (*PARTS, ToldPlace)
+PARTS: tuple[Any, ...] = (CInterface, CAddress, CRoute, CRange)
+PLACED_PARTS: tuple[Any, ...] = (*PARTS, CPlace)
 # Before version 4 there were no addresses of no interface.
-OLDER_PARTS: tuple[Any, ...] = (ToldInterface, ToldRoute, ToldRange)
+OLDER_PARTS: tuple[Any, ...] = (CInterface, CRoute, CRange)
 KIND_BYTES = {"frame": b"f", "copy": b"c", "unicast": b"u"}
 
 

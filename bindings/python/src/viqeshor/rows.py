@@ -19,56 +19,56 @@ def numbers(*names: str) -> list[tuple[str, Any]]:
 # ---- the values of C
 
 
-class ToldNeighbour(Structure):
+class CNeighbour(Structure):
     _fields_ = [("iface", c_uint32), ("address", c_uint32), ("end", c_uint64)]
 
 
-class ToldGroup(Structure):
+class CGroup(Structure):
     _fields_ = [("iface", c_uint32), ("group", c_uint32), ("is_exclude", c_bool), ("end", c_uint64)]
 
 
-class ToldSource(Structure):
+class CSource(Structure):
     _fields_ = [("iface", c_uint32), ("group", c_uint32), ("source", c_uint32), ("end", c_uint64)]
 
 
-class ToldDownstream(Structure):
+class CDownstream(Structure):
     _fields_ = [("iface", c_uint32), ("group", c_uint32), ("source", c_uint32), ("is_rpt", c_bool), ("state", c_uint32),
                 ("end", c_uint64), ("pending", c_uint64)]
 
 
-class ToldAssert(Structure):
+class CAssert(Structure):
     _fields_ = [("iface", c_uint32), ("group", c_uint32), ("source", c_uint32), ("is_loser", c_bool),
                 ("winner", c_uint32), ("end", c_uint64)]
 
 
-class ToldUpstream(Structure):
+class CUpstream(Structure):
     _fields_ = [("group", c_uint32), ("source", c_uint32), ("next_join", c_uint64)]
 
 
-class ToldRpt(Structure):
+class CRpt(Structure):
     _fields_ = [("group", c_uint32), ("source", c_uint32), ("is_pruned", c_bool)]
 
 
-class ToldActive(Structure):
+class CActive(Structure):
     _fields_ = [("group", c_uint32), ("source", c_uint32), ("keepalive", c_uint64), ("spt_bit", c_bool),
                 ("register_state", c_uint32)]
 
 
-class ToldColumns(ctypes.Union):
+class CColumns(ctypes.Union):
     _fields_ = [
-        ("neighbour", ToldNeighbour),
-        ("group", ToldGroup),
-        ("source", ToldSource),
-        ("downstream", ToldDownstream),
-        ("asserted", ToldAssert),
-        ("upstream", ToldUpstream),
-        ("rpt", ToldRpt),
-        ("active", ToldActive),
+        ("neighbour", CNeighbour),
+        ("group", CGroup),
+        ("source", CSource),
+        ("downstream", CDownstream),
+        ("asserted", CAssert),
+        ("upstream", CUpstream),
+        ("rpt", CRpt),
+        ("active", CActive),
     ]
 
 
-class ToldRow(Structure):
-    _fields_ = [("table", c_uint32), ("of", ToldColumns)]
+class CRow(Structure):
+    _fields_ = [("table", c_uint32), ("of", CColumns)]
 
 
 # ---- what is told
@@ -211,36 +211,36 @@ def there(moment: int) -> int | None:
     return None if moment == NEVER else moment
 
 
-def neighbour_row(of: ToldNeighbour) -> NeighbourRow:
+def neighbour_row(of: CNeighbour) -> NeighbourRow:
     return NeighbourRow(of.iface, dotted(of.address), there(of.end))
 
 
-def group_row(of: ToldGroup) -> GroupRow:
+def group_row(of: CGroup) -> GroupRow:
     return GroupRow(of.iface, dotted(of.group), of.is_exclude, there(of.end))
 
 
-def source_row(of: ToldSource) -> SourceRow:
+def source_row(of: CSource) -> SourceRow:
     return SourceRow(of.iface, dotted(of.group), dotted(of.source), there(of.end))
 
 
-def downstream_row(of: ToldDownstream) -> DownstreamRow:
+def downstream_row(of: CDownstream) -> DownstreamRow:
     return DownstreamRow(of.iface, dotted(of.group), source_of(of.source), of.is_rpt, DOWNSTREAM_STATES[of.state],
                          there(of.end), there(of.pending))
 
 
-def assert_row(of: ToldAssert) -> AssertRow:
+def assert_row(of: CAssert) -> AssertRow:
     return AssertRow(of.iface, dotted(of.group), source_of(of.source), of.is_loser, dotted(of.winner), of.end)
 
 
-def upstream_row(of: ToldUpstream) -> UpstreamRow:
+def upstream_row(of: CUpstream) -> UpstreamRow:
     return UpstreamRow(dotted(of.group), source_of(of.source), of.next_join)
 
 
-def rpt_row(of: ToldRpt) -> RptRow:
+def rpt_row(of: CRpt) -> RptRow:
     return RptRow(dotted(of.group), dotted(of.source), of.is_pruned)
 
 
-def active_row(of: ToldActive) -> ActiveRow:
+def active_row(of: CActive) -> ActiveRow:
     return ActiveRow(dotted(of.group), dotted(of.source), there(of.keepalive), of.spt_bit,
                      REGISTER_STATES[of.register_state])
 
@@ -260,7 +260,7 @@ KINDS: dict[str, tuple[str, Callable[[Any], Row]]] = {
 
 @lru_cache(maxsize=65536)
 def row_of(told: bytes) -> Row:
-    """The row that the bytes of a `ToldRow` say. Most rows are read again and again."""
-    value = ToldRow.from_buffer_copy(told)
+    """The row that the bytes of a `CRow` say. Most rows are read again and again."""
+    value = CRow.from_buffer_copy(told)
     member, row = KINDS[chr(value.table)]
     return row(getattr(value.of, member))

@@ -38,21 +38,21 @@ class Words(Structure):
         return frozenset(found)
 
 
-class ToldNumber(Structure):
+class CNumber(Structure):
     _fields_ = [("is_there", c_bool), ("value", c_uint32)]
 
     def number(self) -> int | None:
         return self.value if self.is_there else None
 
 
-class ToldHop(Structure):
+class CHop(Structure):
     _fields_ = [("is_there", c_bool), ("iface", c_uint32), ("address", c_uint32)]
 
     def hop(self) -> "Hop | None":
         return Hop(self.iface, dotted(self.address)) if self.is_there else None
 
 
-class ToldPath(Structure):
+class CPath(Structure):
     _fields_ = [
         ("is_there", c_bool),
         ("is_connected", c_bool),
@@ -68,11 +68,11 @@ class ToldPath(Structure):
         return Path(self.iface, dotted(self.next_hop), self.preference, self.metric, self.is_connected)
 
 
-class ToldTree(Structure):
+class CTree(Structure):
     _fields_ = [
-        ("rp", ToldNumber),
-        ("path", ToldPath),
-        ("rpf_neighbour", ToldHop),
+        ("rp", CNumber),
+        ("path", CPath),
+        ("rpf_neighbour", CHop),
         ("rpf_cause", c_uint32),
         ("join_desired", c_bool),
         ("joins", Words),
@@ -84,12 +84,12 @@ class ToldTree(Structure):
     ]
 
 
-class ToldSourceTree(Structure):
+class CSourceTree(Structure):
     _fields_ = [
-        ("path", ToldPath),
-        ("rpf_neighbour", ToldHop),
+        ("path", CPath),
+        ("rpf_neighbour", CHop),
         ("rpf_cause", c_uint32),
-        ("rpf_neighbour_rpt", ToldHop),
+        ("rpf_neighbour_rpt", CHop),
         ("rpt_state", c_uint32),
         ("spt_bit", c_bool),
         ("is_kept_alive", c_bool),
@@ -112,7 +112,7 @@ class ToldSourceTree(Structure):
     ]
 
 
-class ToldQuerier(Structure):
+class CQuerier(Structure):
     _fields_ = [
         ("role", c_uint32),
         ("end", c_uint64),
@@ -122,11 +122,11 @@ class ToldQuerier(Structure):
     ]
 
 
-class ToldLink(Structure):
-    _fields_ = [("is_up", c_bool), ("is_dr", c_bool), ("dr", c_uint32), ("querier", ToldQuerier)]
+class CLink(Structure):
+    _fields_ = [("is_up", c_bool), ("is_dr", c_bool), ("dr", c_uint32), ("querier", CQuerier)]
 
 
-class ToldLanDelay(Structure):
+class CLanDelay(Structure):
     _fields_ = [
         ("is_there", c_bool),
         ("can_track", c_bool),
@@ -135,12 +135,12 @@ class ToldLanDelay(Structure):
     ]
 
 
-class ToldNeighbour(Structure):
+class CNeighbour(Structure):
     _fields_ = [
         ("end", c_uint64),
-        ("priority", ToldNumber),
-        ("generation", ToldNumber),
-        ("lan_delay", ToldLanDelay),
+        ("priority", CNumber),
+        ("generation", CNumber),
+        ("lan_delay", CLanDelay),
     ]
 
 
@@ -257,26 +257,26 @@ def sets_of(told: Structure) -> list[frozenset[int]]:
     return [words.interfaces() for words in fields]
 
 
-def tree_of(told: ToldTree) -> Tree:
+def tree_of(told: CTree) -> Tree:
     rp = told.rp.number()
     return Tree(None if rp is None else dotted(rp), told.path.path(), told.rpf_neighbour.hop(), CAUSES[told.rpf_cause],
                 told.join_desired, *sets_of(told))
 
 
-def source_tree_of(told: ToldSourceTree) -> SourceTree:
+def source_tree_of(told: CSourceTree) -> SourceTree:
     flags = [getattr(told, name) for name, kind in told._fields_ if kind is c_bool]
     return SourceTree(told.path.path(), told.rpf_neighbour.hop(), CAUSES[told.rpf_cause], told.rpf_neighbour_rpt.hop(),
                       RPT_STATES[told.rpt_state], *flags, *sets_of(told))
 
 
-def link_of(told: ToldLink) -> Link:
+def link_of(told: CLink) -> Link:
     it = told.querier
     end = None if it.end == NEVER else it.end
     querier = Querier(QUERIERS[it.role], end, it.startup_left, it.robustness, it.query_interval)
     return Link(told.is_up, told.is_dr, dotted(told.dr) if told.is_up else None, querier)
 
 
-def neighbour_of(told: ToldNeighbour) -> Neighbour:
+def neighbour_of(told: CNeighbour) -> Neighbour:
     it = told.lan_delay
     delay = LanDelay(it.can_track, it.propagation_delay, it.override_interval) if it.is_there else None
     end = None if told.end == NEVER else told.end
