@@ -77,7 +77,7 @@ class Spoilt(unittest.TestCase):
         self.refused("a meter changes in Meter::restart")
 
     def test_a_trie_that_opens_an_auditor(self):
-        self.spoil("pim_trie/src/trie.rt", "use pim_meter::Meter;", "use pim_meter::{Auditor, Meter, open};")
+        self.spoil("pim_trie/src/trie.rt", "use pim_meter::Meter;", "use pim_meter::{Auditor, Meter};")
         self.refused("an auditor is brought in")
 
     def test_a_trie_that_passes_all_on(self):
@@ -124,7 +124,7 @@ class Spoilt(unittest.TestCase):
             "    Cache::new(turn.alloc).refresh(&core.world, meter, names.try_clone()?, Touched::All, &last)?;\n"
             "    core.cache.refresh(\n",
         )
-        self.refused("a count of rows is made in take_change")
+        self.refused("a count of rows is made in change_and_refresh")
 
     def test_a_count_of_rows_under_another_name(self):
         self.spoil("pim_fanout/src/naming.rt", "use pim_macros::",
@@ -174,7 +174,7 @@ class Spoilt(unittest.TestCase):
             "    match hear(",
             "    for (_, _) in core.world.store().downstream_rows() {}\n    match hear(",
         )
-        self.refused("take_frame calls mfc for store downstream_rows hear")
+        self.refused("hear_packet calls mfc for store downstream_rows hear")
 
     def test_a_call_of_a_trait_that_reads_all_rows(self):
         self.spoil(

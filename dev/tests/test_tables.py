@@ -88,7 +88,7 @@ class Tables(unittest.TestCase):
         path.write_text(path.read_text(encoding="utf-8") + more, encoding="utf-8")
         self.assertEqual(self.ran("--write")[0], 0)
         self.assertEqual(self.holders("Ignored.BadOption = 109"), {
-            "crates/pim_c/specs/Told.antt", "crates/pim_runs/specs/Transcript.antt"})
+            "crates/pim_c/specs/Returned.antt", "crates/pim_runs/specs/Transcript.antt"})
         self.assertLessEqual({"bindings/c/texts.c"}, self.holders('return "ignored: c";'))
 
     def number(self):

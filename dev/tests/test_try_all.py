@@ -1,6 +1,7 @@
 """`dev/try_all`: how parts run, what is said of them, and that all that there is has a part."""
 import contextlib
 import io
+import os
 import sys
 import unittest
 from unittest import mock
@@ -91,6 +92,10 @@ class Table(unittest.TestCase):
         for path in (stored.TORTURE / "bench").iterdir():
             if path.is_file() and not path.suffix:
                 self.assertIn(f"`torture/bench/{path.name} ", self.said)
+
+    def test_the_router_is_built_by_the_oldest_rust_there_is(self):
+        first = {part.name: part.environment()["PATH"].split(os.pathsep)[0] for part in self.parts}
+        self.assertEqual({first[name] for name in (parts.ROUTER, "linux")}, {"/usr/bin"})
 
     def test_each_program_of_rust_is_tested(self):
         for manifest in TOP.glob("*/**/Cargo.toml"):

@@ -13,19 +13,20 @@ ABI = TOP / "bindings" / "c" / "abi.txt"
 # What the crate's values are called in C.
 NAMES = {
     "Handle": "viq_core", "GivenInterface": "viq_interface", "GivenRoute": "viq_route", "GivenRange": "viq_range",
-    "GivenSettings": "viq_core_settings", "Packet": "viq_packet", "Interfaces": "viq_interfaces",
-    "Forwarding": "viq_forwarding", "PlaneRow": "viq_plane_row", "OlderGroup": "viq_older_row",
-    "NamedSource": "viq_source_group", "ToldNumber": "viq_number", "ToldHop": "viq_hop", "ToldPath": "viq_path",
-    "ToldTree": "viq_tree", "ToldSourceTree": "viq_source_tree", "ToldQuerier": "viq_querier", "ToldLink": "viq_link",
-    "ToldLanDelay": "viq_lan_delay", "ToldNeighbour": "viq_neighbour", "NeighbourColumns": "viq_neighbour_row",
-    "GroupColumns": "viq_group_row", "SourceColumns": "viq_source_row", "DownstreamColumns": "viq_downstream_row",
-    "AssertColumns": "viq_assert_row", "UpstreamColumns": "viq_upstream_row", "RptColumns": "viq_rpt_row",
-    "ActiveColumns": "viq_active_row", "ToldRow": "viq_core_row", "GivenCall": "viq_call",
+    "GivenSettings": "viq_core_settings", "GivenConfiguration": "viq_core_configuration", "Packet": "viq_packet",
+    "Interfaces": "viq_interfaces", "Forwarding": "viq_forwarding", "PlaneRow": "viq_plane_row",
+    "OlderGroup": "viq_older_row", "NamedSource": "viq_source_group", "CNumber": "viq_number",
+    "CHop": "viq_hop", "CPath": "viq_path", "CTree": "viq_tree", "CSourceTree": "viq_source_tree",
+    "CQuerier": "viq_querier", "CLink": "viq_link", "CLanDelay": "viq_lan_delay",
+    "CNeighbour": "viq_neighbour", "NeighbourColumns": "viq_neighbour_row", "GroupColumns": "viq_group_row",
+    "SourceColumns": "viq_source_row", "DownstreamColumns": "viq_downstream_row", "AssertColumns": "viq_assert_row",
+    "UpstreamColumns": "viq_upstream_row", "RptColumns": "viq_rpt_row", "ActiveColumns": "viq_active_row",
+    "CRow": "viq_core_row", "GivenCall": "viq_call",
 }
 # `Place` is a pointer beside what takes no room.
 TYPES = {"u8": "uint8_t", "u32": "uint32_t", "u64": "uint64_t", "usize": "size_t", "bool": "bool", "Place": "void *"}
-STRUCT = re.compile(r"#\[repr\(C\)\]\n(?:#\[[^\n]*\]\n)?pub struct (\w+) \{\n(.*?)^\}", re.M | re.S)
-FIELD = re.compile(r"^    (?:pub )?(\w+): (\w+),$", re.M)
+STRUCT = re.compile(r"#\[repr\(C\)\]\n(?:#\[[^\n]*\]\n)?pub struct (\w+)(?:<'a>)? \{\n(.*?)^\}", re.M | re.S)
+FIELD = re.compile(r"^    (?:pub )?(\w+): (&'a \[)?(\w+)\]?,$", re.M)
 CALL = re.compile(r'^pub extern "C" fn (viq_core_\w+)\((.*?)\)(?: -> (\w+))?\n', re.M | re.S)
 PARAMETER = re.compile(r"(\w+): (&mut |&)?(\[?)(\w+)\]?")
 C_CALL = re.compile(r"\b(viq_core_\w+)\(")
@@ -37,10 +38,19 @@ C_NUMBER = re.compile(r"^#define (VIQ_(?:MOST|NEVER|NO|USUAL)\w*) (.+)$", re.M)
 
 def structs() -> dict[str, list[tuple[str, str]]]:
     """The crate's values that C sees: each with its fields, a name and a type of C."""
-    names = ("handle.rt", "given.rt", "told.rt", "rows.rt", "trees.rt", "recorded.rt")
+    names = ("handle.rt", "given.rt", "returned.rt", "rows.rt", "trees.rt", "recorded.rt")
     text = "".join((SOURCES / name).read_text() for name in names)
     found = {name: FIELD.findall(body) for name, body in STRUCT.findall(text)}
-    return {NAMES[name]: [(field, c_type(kind)) for field, kind in found[name]] for name in NAMES}
+    return {NAMES[name]: [it for field in found[name] for it in c_fields(*field)] for name in NAMES}
+
+
+def c_fields(name: str, is_lent: str, kind: str) -> Iterator[tuple[str, str]]:
+    """A field as C has it: of a list its first value's place, and how many values it has."""
+    if is_lent:
+        yield name, f"const {c_type(kind)} *"
+        yield re.sub("(?<=ss)es$|s$", "", name) + "_count", "size_t"
+    else:
+        yield name, c_type(kind)
 
 
 def c_type(kind: str) -> str:

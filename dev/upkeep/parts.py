@@ -17,6 +17,8 @@ INSTALLED = TOP / "out" / "quick" / "installed"
 ROUTER = "router"
 VIQESHORD = TOP / "out" / "cargo" / "linux" / "debug" / "viqeshord"
 OF_FRR = ("from_frr", "from_pcap", "kinds")
+# Where Debian's Rust is, 1.63, which the router has to be content with.
+DEBIAN = "/usr/bin"
 # The tests that take longest, which begin first; and those that want neither the program nor the library.
 LONG = ("embed", "check_counts", "why", "lab", "pimlab", "unproved", "mend", "mroute", "usual_mistakes", "recorded",
     "play")
@@ -36,9 +38,11 @@ class Part:
 
     def environment(self) -> dict[str, str]:
         """Cargo's commands have a folder each, so that they don't wait for one another; what the router is built of is
-        what its tests are built of."""
+        what its tests are built of: by Debian's Rust where that is there, beside another one too."""
         target = "linux" if self.name == ROUTER else self.name
+        before = [DEBIAN] if target == "linux" else []
         return os.environ | {
+            "PATH": os.pathsep.join([*before, os.environ.get("PATH", os.defpath)]),
             "PIMLAB_BUILD": "unproved", "CARGO_TARGET_DIR": str(TOP / "out" / "cargo" / target),
             "CARGO_TERM_COLOR": "never", "VIQESHOR_LIB_DIR": str(INSTALLED / "lib"), "VIQESHORD": str(VIQESHORD),
         }

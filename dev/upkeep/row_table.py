@@ -262,36 +262,35 @@ def record(name: str, pairs: list[tuple[str, str]]) -> list[str]:
     return [f"  {name} = record {{", *(f"    {key} = {value};" for key, value in pairs), "  };"]
 
 
-def told_spec(rows: list[Row]) -> Iterator[str]:
+def c_spec(rows: list[Row]) -> Iterator[str]:
     for row in rows:
         yield f"row_of (Row.{row.name} {' '.join(row.names())}) = record (blank {ord(row.letter)}) {{"
         yield from record(row.member, [(it.name, it.of.spec.replace("{}", row.value(it))) for it in row.columns])
         yield "}"
 
 
-def told_functions(rows: list[Row]) -> Iterator[str]:
+def c_functions(rows: list[Row]) -> Iterator[str]:
     """A blank row, and behind it a function for each kind of row."""
     yield from (*blank_code(rows), "    }", "}", "")
     for row in rows:
         yield f"// {row.whose} as C reads it."
-        yield from listed([f"{key}: {kind}" for key, kind in row.types()], f"fn {row.member}(", ") -> ToldRow", "")
+        yield from listed([f"{key}: {kind}" for key, kind in row.types()], f"fn {row.member}_row(", ") -> CRow", "")
         yield f"    ensures {{ result ≡ row_of (Row.{row.name} {' '.join(row.names())}) }}"
         yield from ("{", f"    let {row.member} = {row.library}Columns {{")
         values = [(it.name, it.of.is_c.replace("{}", row.value(it))) for it in row.columns]
         yield from (*fields(values, "        "), "    };")
         if len(inner := f"{row.member}, ..blank(b'{row.letter}')") <= 18:
-            yield f"    ToldRow {{ {inner} }}"
+            yield f"    CRow {{ {inner} }}"
         else:
-            yield from ("    ToldRow {", f"        {row.member},", f"        ..blank(b'{row.letter}')", "    }")
+            yield from ("    CRow {", f"        {row.member},", f"        ..blank(b'{row.letter}')", "    }")
         yield from ("}", "")
 
 
-def told_cases(rows: list[Row]) -> Iterator[str]:
+def c_cases(rows: list[Row]) -> Iterator[str]:
     for row in rows:
-        names = [("of" if name == row.member else name) for name in row.names()]
         yield f"        Row::{row.name} {{"
-        yield from fields(zip(row.names(), names), "            ")
-        yield f"        }} => {row.member}({', '.join(names)}),"
+        yield from fields(zip(row.names(), row.names()), "            ")
+        yield f"        }} => {row.member}_row({', '.join(row.names())}),"
 
 
 # ---- lines
@@ -377,9 +376,9 @@ def rust_columns(row: Row) -> Iterator[str]:
         yield from (f"    /// {it.sentence('rust')}", f"    pub {it.rust}: {it.of.rust},")
 
 
-def rust_told(rows: list[Row]) -> Iterator[str]:
+def rust_reading(rows: list[Row]) -> Iterator[str]:
     for row in rows:
-        yield from ("", f"impl {row.library}Row {{", f"    fn told(of: raw::{row.library}) -> {row.library}Row {{")
+        yield from ("", f"impl {row.library}Row {{", f"    fn from_c(of: raw::{row.library}) -> {row.library}Row {{")
         items = [f"{it.rust}: {it.of.of_rust.replace('{}', f'of.{it.name}')}" for it in row.columns]
         yield from one_or_more_lines(f"{row.library}Row", items, "        ")
         yield from ("    }", "}")
@@ -403,7 +402,7 @@ def rust_raw(row: Row) -> Iterator[str]:
 
 def python_raw(rows: list[Row]) -> Iterator[str]:
     for row in rows:
-        yield f"class Told{row.library}(Structure):"
+        yield f"class C{row.library}(Structure):"
         columns = [f'("{it.name}", {CTYPES[it.of.c]})' for it in row.columns]
         yield from (*wrapped("    _fields_ = [", columns, "]"), "", "")
 
@@ -447,10 +446,10 @@ def wrapped(head: str, items: list[str], tail: str) -> list[str]:
     return lines
 
 
-def python_told(rows: list[Row]) -> Iterator[str]:
+def python_reading(rows: list[Row]) -> Iterator[str]:
     for row in rows:
         name = row.library.lower()
-        yield f"def {name}_row(of: Told{row.library}) -> {row.library}Row:"
+        yield f"def {name}_row(of: C{row.library}) -> {row.library}Row:"
         items = [it.of.of_python.replace("{}", f"of.{it.name}") for it in row.columns]
         yield from (*wrapped(f"    return {row.library}Row(", items, ")"), "", "")
 

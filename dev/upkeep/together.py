@@ -303,10 +303,10 @@ def all_tried(edits: list[Edit], prover: Prover) -> Iterator[tuple[Edit, Answer]
 
 def read_by_front_end(edits: list[Edit], prover: Prover) -> Iterator[tuple[Edit, Answer]]:
     """Those edits of a crate that the front end alone judges or spoils: it is to refuse those that no type allows, and
-    no other."""
+    no other. Over sources a crate may name each library below it, so that is left to the gate."""
     flaws = {edit: flaw for edit in edits if (flaw := edit.flaw())}
     yield from ((edit, ("does not apply", it)) for edit, it in flaws.items())
-    whole = [edit for edit in edits if edit not in flaws]
+    whole = [edit for edit in edits if edit not in flaws and edit.error() != "error[unknown-library]"]
     yield from ((edit, by_types(edit, prover)) for edit in whole if edit.error())
     for batch in batches(whole):
         left = batch.edits

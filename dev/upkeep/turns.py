@@ -8,10 +8,10 @@ from upkeep.edits import texts_of
 
 # So many landings it takes until the edits of every crate had their turn, where none changes.
 TURNS = 5
-# The sum of each crate's code and contracts when all edits were tried.
+# The sum of each crate's code, contracts and edits when its edits were tried.
 TRIED = Path("dev") / "edits_tried.txt"
-HEAD = """# The code, contracts and edits of each crate when all edits were tried last, as sums
-# (dev/upkeep/turns.py). `./test --edits` writes this file where it is green.
+HEAD = """# The code, contracts and edits of each crate when its edits were tried last, as sums
+# (dev/upkeep/turns.py). `./test` writes those of the crates whose edits it tried, where it is green.
 """
 
 
@@ -42,9 +42,10 @@ def tried_at(top: Path) -> dict[str, str]:
     return dict(line.split() for line in lines if line and not line.startswith("#"))
 
 
-def write(top: Path) -> None:
-    """Notes that all edits were tried."""
-    lines = [f"{name} {sum_of(top, name)}\n" for name in with_edits(top)]
+def write(top: Path, names: list[str]) -> None:
+    """Notes that all edits of these crates were tried."""
+    sums = {**tried_at(top), **{name: sum_of(top, name) for name in names}}
+    lines = [f"{name} {sums[name]}\n" for name in with_edits(top) if name in sums]
     (top / TRIED).write_text(HEAD + "".join(lines), encoding="utf-8")
 
 
