@@ -6,7 +6,7 @@ bound for both, `bound`.
 from __future__ import annotations
 
 import functools
-from collections.abc import Iterable, Iterator
+from collections.abc import Callable, Iterable, Iterator
 from dataclasses import dataclass, field
 from itertools import pairwise
 from typing import TYPE_CHECKING, Any
@@ -33,13 +33,13 @@ PROVED = {
     "neighbours gone": ("no", ""),
     "one DR": ("in part", "2d after each one's next Hello, once each forgot who left: ExactlyOneDr"),
     "one querier": ("in part", "2d after the lowest takes others for gone: ExactlyOneQuerier; that it is 255 s isn't"),
-    "members known": ("in part", "that a record stays: MemberKeepsItsRecord; the time isn't"),
+    "members known": ("in part", "2(qri + d) after the next query: MemberComesToBeKnown; that it is sooner isn't"),
     "members gone": ("in part", "of groups, from the end of their timer on: LeftGroupEnds; that it is 260 s isn't"),
-    "Joins held": ("in part", "2d after the Join timer: JoinsComeToBeHeld, JoinsAreShared; that it is 84 s isn't"),
+    "Joins held": ("in part", "2d after the Join timer: JoinsComeToBeHeld, AllComeToBeHeld; that it is 84 s isn't"),
     "Joins gone": ("no", ""),
-    "one sender": ("in part", "that the timer ends by then: AssertsStayNear; that one sender is left isn't"),
+    "one sender": ("in part", "of a winner and its loser: AtMostOneComesToSend, OneWinnerIsLeft; the time isn't"),
     "a tree joined": ("in part", "that it stays: WayStaysJoined; the time isn't"),
-    "all": ("no", ""),
+    "all": ("in part", "one DR, one querier, members and Joins at once: NetworkSettles; the rest and the time aren't"),
 }
 
 
@@ -80,9 +80,10 @@ class Hop:
 
 @dataclass
 class Heard:
-    """What a scenario's moves say: the tables and interfaces that it leaves, which hosts ask on which links, when each
-    source sends, and which frames come out of order."""
+    """What a scenario's moves say: the tables and interfaces that it leaves, the tables before each reload, which hosts
+    ask on which links, when each source sends, and which frames come out of order."""
     tables: dict[str, dict[str, Any]]
+    former: list[dict[str, Any]] = field(default_factory=list)
     up: dict[tuple[str, str], bool] = field(default_factory=dict)
     asked: set[str] = field(default_factory=set)
     sent: dict[tuple[str, str], list[int]] = field(default_factory=dict)
@@ -95,6 +96,7 @@ class Heard:
         if do in ("routes", "rps"):
             self.replace(name, {**self.tables[name], do: did["list"]})
         elif do == "reload":
+            self.former.append(self.tables[name])
             self.replace(name, {**did["config"], "name": name})
         elif do == "advance":
             self.now[name] = did["moment"]
@@ -141,11 +143,11 @@ class Plan:
         for did in played.moves:
             self.heard.hear(did)
         self.routers = {name: router_of(table) for name, table in self.heard.tables.items()}
-        self.ports: dict[str, list[Port]] = {}
-        for name, router in self.routers.items():
-            for own, row in zip(router.interfaces, router.table["iface"]):
-                if not self.heard.up or self.heard.up.get((name, own.link)):
-                    self.ports.setdefault(own.link, []).append(Port(router, own, (router.table, row)))
+        up = self.heard.up
+        self.ports = ports_of(self.routers.values(), lambda name, link: not up or up.get((name, link), False))
+        # Those too that were up before, and that had other values: what was set by these may last.
+        every = [*self.routers.values(), *map(router_of, self.heard.former)]
+        self.known = ports_of(every, lambda name, link: not up or (name, link) in up)
         self.asked = [link for link in self.ports if link in self.heard.asked] or list(self.ports)
         self.lans = {link: ports for link, ports in self.ports.items() if len(ports) > 1}
         self.sources = list(dict.fromkeys(source for source, _ in self.heard.sent))
@@ -197,6 +199,10 @@ class Plan:
 
     # ---- terms
 
+    def is_shared(self, link: str) -> bool:
+        """Whether more than one router is on a link, or was."""
+        return len({port.router.name for port in self.known[link]}) > 1
+
     def most(self, link: str, key: str) -> tuple[int, str]:
         """The greatest configured value on a link, and whose it is."""
         ports = self.ports[link]
@@ -209,29 +215,32 @@ class Plan:
 
     def queried(self, link: str) -> tuple[Port, int, int, str, str]:
         """Whose robustness times query interval is greatest, this time, the longest query response interval, the former
-        in words, and all who have it. Whoever is the querier, the others take its values over, but for the last."""
-        ports, times = self.ports[link], {each: each.value("rv") * each.value("qi") for each in self.ports[link]}
+        in words, and all who have it. Whoever is or was the querier, the others take its values over, but for the
+        last."""
+        ports = self.known[link]
+        times = {each: each.value("rv") * each.value("qi") for each in ports}
         port = max(ports, key=times.__getitem__)
         who = whose(ports, [each for each in ports if times[each] == times[port]])
         told = f"rv {port.value('rv')} x qi {seconds(port.value('qi'))}"
-        return port, times[port], self.most(link, "qri")[0], told, who
+        return port, times[port], max(each.value("qri") for each in ports), told, who
 
     def terms(self) -> list[Term]:
         return [each for link in self.ports for each in (*self.lan_terms(link), *self.member_terms(link))]
 
     def lan_terms(self, link: str) -> Iterator[Term]:
-        """What a link has that routers share."""
-        if link not in self.lans:
+        """What a link has that routers share, or did. What was sent before the last change comes within d of it."""
+        if not self.is_shared(link):
             return
         d, e, bound, every = self.d, self.e, self.bound, "each"
-        yield Term("neighbours known", HELLO_PERIOD + 2 * bound, "Hello_Period 30 s + 2max(d,e)", every, link)
+        if link in self.lans:
+            yield Term("neighbours known", HELLO_PERIOD + 2 * bound, "Hello_Period 30 s + 2max(d,e)", every, link)
+            yield Term("Joins held", SUPPRESSED + 2 * bound, "Join timer 84 s + 2max(d,e)", every, link)
         gone = HELLO_HOLDTIME + d + e
         yield Term("neighbours gone", gone, "Hello_Holdtime 105 s + d + e", every, link)
         yield Term("one DR", gone, "as neighbours gone", every, link)
         _, times, reply, told, who = self.queried(link)
-        told = f"{told} + qri {seconds(reply)} / 2 + 2max(d,e)"
-        yield Term("one querier", times + reply // 2 + 2 * bound, told, who, link)
-        yield Term("Joins held", SUPPRESSED + 2 * bound, "Join timer 84 s + 2max(d,e)", every, link)
+        told = f"{told} + qri {seconds(reply)} / 2 + d + 2max(d,e)"
+        yield Term("one querier", times + reply // 2 + d + 2 * bound, told, who, link)
         yield Term("Joins gone", JOIN_HOLDTIME + d + e, "holdtime 210 s + d + e", every, link)
         yield Term("one sender", ASSERT_TIME + 2 * d + e, "Assert_Time 180 s + 2d + e", every, link)
 
@@ -240,11 +249,12 @@ class Plan:
         if link not in self.asked:
             return
         port, times, reply, told, who = self.queried(link)
-        first, how = (times + reply // 2, f"{told} + qri {seconds(reply)} x 3/2")
-        if link not in self.lans:
-            first, how = port.value("qi"), f"qi {seconds(port.value('qi'))} + qri {seconds(reply)}"
-        yield Term("members known", first + reply + 2 * self.d + self.e, f"{how} + 2d + e", who, link)
-        yield Term("members gone", times + reply + self.e, f"{told} + qri {seconds(reply)} + e", who, link)
+        first, how = times + reply // 2 + self.d, f"{told} + qri {seconds(reply)} x 3/2 + 3d + e"
+        if not self.is_shared(link):
+            first, how = port.value("qi"), f"qi {seconds(port.value('qi'))} + qri {seconds(reply)} + 2d + e"
+        yield Term("members known", first + reply + 2 * self.d + self.e, how, who, link)
+        told = f"{told} + qri {seconds(reply)} + d + e"
+        yield Term("members gone", times + reply + self.d + self.e, told, who, link)
 
     def sums(self, terms: list[Term]) -> Iterator[Term]:
         """A whole tree, and all: the longest term, and the longest way that Prunes have from there."""
@@ -324,6 +334,16 @@ class Plan:
         for host in self.net.hosts.values():
             if not host.answers:
                 yield f"{host.name} doesn't answer queries", host.link.name
+
+
+def ports_of(routers: Iterable[Router], is_taken: Callable[[str, str], bool]) -> dict[str, list[Port]]:
+    """The interfaces of routers that are taken, by a router's name and a link's, on each link."""
+    found: dict[str, list[Port]] = {}
+    for router in routers:
+        for own, row in zip(router.interfaces, router.table["iface"]):
+            if is_taken(router.name, own.link):
+                found.setdefault(own.link, []).append(Port(router, own, (router.table, row)))
+    return found
 
 
 def whose(ports: Iterable[Port], some: Iterable[Port]) -> str:
