@@ -1467,8 +1467,8 @@ static void texts(void) {
     is("the version", strncmp(viq_version(), VIQ_VERSION " ", sizeof VIQ_VERSION), 0);
     is("how it was built", strstr(viq_version(), "proved") != NULL, true);
     is("done", strcmp(viq_answer_text(VIQ_DONE), "done"), 0);
-    is("no answer", strcmp(viq_answer_text(10), "no answer of this library"), 0);
-    is("refused", viq_is_refused(VIQ_FULL) && viq_is_refused(38) && !viq_is_refused(VIQ_DONE) && !viq_is_refused(VIQ_MEMORY), true);
+    is("no answer", strcmp(viq_answer_text(VIQ_IGNORED), "no answer of this library"), 0);
+    is("refused", viq_is_refused(VIQ_FULL) && viq_is_refused(38) && viq_is_refused(VIQ_PLACES_DONT_FIT) && !viq_is_refused(VIQ_DONE) && !viq_is_refused(VIQ_MEMORY), true);
     is("ignored", viq_is_ignored(VIQ_OWN) && viq_is_ignored(VIQ_ALREADY) && viq_is_ignored(VIQ_GUARDED) && !viq_is_ignored(VIQ_NO_TIMER) && !viq_is_ignored(VIQ_NOT_QUIET) && !viq_is_ignored(VIQ_IGNORED), true);
     is("untaken", viq_is_refused(VIQ_UNTAKEN) || viq_is_ignored(VIQ_UNTAKEN) || viq_is_lost(VIQ_UNTAKEN), false);
     is("lost", viq_is_lost(VIQ_LOST) && viq_is_lost(VIQ_FAILED) && !viq_is_lost(VIQ_MEMORY), true);

@@ -37,6 +37,8 @@ const char *viq_answer_text(uint32_t answer) {
     case VIQ_BAD_DELAY: return "an interface's delay is out of range";
     case VIQ_CONFIGURED_ROUTES: return "configured routes that can't stand";
     case VIQ_CONFIGURED_RANGES: return "configured RP ranges that can't stand";
+    case VIQ_OWN_ADDRESSES: return "own addresses that can't stand";
+    case VIQ_PLACES_DONT_FIT: return "a map of places that doesn't name each interface once";
     case VIQ_MEMORY: return "memory was refused, and nothing has changed";
     case VIQ_FAILED: return "the router was lost before";
     case VIQ_LOST: return "memory was refused, and the router is lost";
@@ -56,10 +58,8 @@ const char *viq_answer_text(uint32_t answer) {
     case VIQ_NOT_SETTLED: return "a timer of the saved state has expired, or a fact is of an interface that is down";
     case VIQ_NOT_QUIET: return "an assert or an SPTbit of the saved state would go, or a register isn't as it has to be";
     case VIQ_DAMAGED: return "the saved state is damaged: its sum is another one";
-    case VIQ_OWN_ADDRESSES: return "own addresses that can't stand";
-    case VIQ_HOSTS_NOT_HELD: return "the saved groups of older hosts can't be read, or are none that the saved router can have";
-    case VIQ_PLACES_DONT_FIT: return "a map of places that doesn't name each interface once";
     case VIQ_NOT_NEAR: return "a timer of the saved state ends later than it may, or a fact lies where none can";
+    case VIQ_HOSTS_NOT_HELD: return "the saved groups of older hosts can't be read, or are none that the saved router can have";
     case VIQ_OWN: return "ignored: the router's own packet";
     case VIQ_NOT_FOR_ME: return "ignored: not for this router";
     case VIQ_OTHER_TYPE: return "ignored: a PIM message of another type";

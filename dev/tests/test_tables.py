@@ -22,6 +22,7 @@ ANSWER = """
 [[answer]]
 number = {}
 name = "BadOption"
+of = "{}"
 about = "{}"
 core = "{}"
 says = "{}"
@@ -54,9 +55,9 @@ class Tables(unittest.TestCase):
     def holders(self, word):
         return {path for path in FILES if word in (self.top / path).read_text(encoding="utf-8")}
 
-    def with_answer(self, number, before):
-        """The table with one more answer, before the answer of this number."""
-        more = ANSWER.format(number, *(f"an odd {word}" for word in ("about", "core", "saying", "when", "hint")))
+    def with_answer(self, number, before, of="Refusal"):
+        """The table with one more answer, of a type of the core, before the answer of this number."""
+        more = ANSWER.format(number, of, *(f"an odd {word}" for word in ("about", "core", "saying", "when", "hint")))
         self.changed("tables/answers.toml", f"\n[[answer]]\nnumber = {before}\n",
                      f"{more}\n[[answer]]\nnumber = {before}\n")
 
@@ -77,17 +78,55 @@ class Tables(unittest.TestCase):
         self.assertLessEqual({"bindings/python/src/viqeshor/lab/facts.py"}, self.holders('"10": "an odd hint",'))
 
     def test_so_is_one_of_saved_bytes(self):
-        self.with_answer(80, 101)
+        self.with_answer(80, 101, "SavedRefusal")
         self.assertEqual(self.ran("--write")[0], 0)
         self.assertEqual(self.holders("BadOption = 80"), {
             "crates/pim_saved/specs/Refused.antt", "crates/pim_saved/src/refusal.rt", "bindings/rust/src/lib.rs"})
+        self.assertEqual(self.holders("| 80 | `BadOption` | an odd when |"), {"docs/SAVED.md"})
+
+    def test_so_is_one_of_a_saved_state(self):
+        for of, crate in (("RestoreRefusal", "pim_worlds"), ("HeldRefusal", "igmp_older_saved")):
+            with self.subTest(of):
+                self.setUp()
+                self.with_answer(80, 101, of)
+                self.assertEqual(self.ran("--write")[0], 0)
+                self.assertEqual(self.holders(f"{of}.BadOption = 80"), {f"crates/{crate}/specs/Refused.antt"})
+                self.assertEqual(self.holders(f"{of}::BadOption => 80,"), {f"crates/{crate}/src/refusal.rt"})
+                self.assertEqual(self.holders("    /// an odd about\n    BadOption,"), {f"crates/{crate}/src/refusal.rt"})
+                self.assertEqual(self.holders("| 80 | `BadOption` | an odd when |"), {"docs/SAVED.md"})
+
+    def test_so_is_one_of_a_configuration_above_the_numbers_of_others(self):
+        self.with_answer(80, 40)
+        self.assertEqual(self.ran("--write")[0], 0)
+        self.assertEqual(self.holders("|| answer == VIQ_BAD_OPTION;"), {"include/viqeshor/viqeshor.h"})
+        self.assertEqual(self.holders(", Answer.BAD_OPTION)"), {"bindings/python/src/viqeshor/__init__.py"})
+        self.assertEqual(self.holders("refusal_number Refusal.BadOption = 80"), {"crates/pim_ip/specs/Refusal.antt"})
+
+    def test_so_is_an_answer_of_the_library_alone(self):
+        text = '[[answer]]\nnumber = 56\nname = "BadCall"\nabout = "An odd call."\nsays = "an odd call"\n\n'
+        self.changed("tables/answers.toml", "[[answer]]\nnumber = 60\n", f"{text}[[answer]]\nnumber = 60\n")
+        self.assertEqual(self.ran("--write")[0], 0)
+        self.assertEqual(self.holders("/// An odd call.\npub const BAD_CALL: u32 = 56;"), {"crates/pim_c/src/returned.rt"})
+        self.assertEqual(self.holders('VIQ_BAD_CALL: return "an odd call";'), {"bindings/c/texts.c"})
+
+    def test_a_table_that_lacks_something_is_told_and_nothing_is_written(self):
+        for change, said in (
+            (("\nnumber = 2\n", "\nnumber = 1\n"), "the number 1 stands more than once"),
+            (('of = "HeldRefusal"\n', 'of = "Held"\n'), "HostsNotHeld: no type is called Held"),
+            (('core = "another version"\n', ""), "BadVersion has no `core`"),
+        ):
+            with self.subTest(said):
+                self.setUp()
+                self.changed("tables/answers.toml", *change)
+                status, lines = self.ran("--write")
+                self.assertEqual((status, set(lines)), (1, {f"tables: answers.toml: {said}"}))
 
     def test_so_is_a_reason_to_ignore(self):
         path = self.top / "tables" / "answers.toml"
-        more = ANSWER.format(109, "a", "b", "c", "d", "e")
+        more = ANSWER.format(110, "Ignored", "a", "b", "c", "d", "e")
         path.write_text(path.read_text(encoding="utf-8") + more, encoding="utf-8")
         self.assertEqual(self.ran("--write")[0], 0)
-        self.assertEqual(self.holders("Ignored.BadOption = 109"), {
+        self.assertEqual(self.holders("Ignored.BadOption = 110"), {
             "crates/pim_c/specs/Returned.antt", "crates/pim_runs/specs/Transcript.antt"})
         self.assertLessEqual({"bindings/c/texts.c"}, self.holders('return "ignored: c";'))
 

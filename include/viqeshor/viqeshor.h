@@ -87,9 +87,9 @@ static inline struct viq_draw viq_draw(uint32_t bits) {
     return draw;
 }
 
-/* Answers. Refusals are 1 to 39 and 70, and those of saved bytes 60 to 69 and from 71 on; reasons to ignore an event are
- * above VIQ_IGNORED. After all of these nothing has changed. SCENARIOS.md has each ("Refusals", "Reasons to ignore"),
- * and SAVED.md those of saved bytes ("What is refused"). */
+/* Answers. Refusals of packets, events and configurations, those of saved bytes, and reasons to ignore an event, which
+ * are above VIQ_IGNORED: after all of these nothing has changed. SCENARIOS.md has each ("Refusals", "Reasons to
+ * ignore"), and SAVED.md those of saved bytes ("What is refused"). */
 enum {
     VIQ_DONE = 0,
 
@@ -123,6 +123,8 @@ enum {
     VIQ_BAD_DELAY = 36,
     VIQ_CONFIGURED_ROUTES = 37,
     VIQ_CONFIGURED_RANGES = 38,
+    VIQ_OWN_ADDRESSES = 70,
+    VIQ_PLACES_DONT_FIT = 73,
 
     VIQ_MEMORY = 40, /* memory was refused, and nothing has changed: the call may be made again */
     VIQ_FAILED = 41, /* the router was lost before: free it, and make another */
@@ -145,10 +147,8 @@ enum {
     VIQ_NOT_SETTLED = 67,
     VIQ_NOT_QUIET = 68,
     VIQ_DAMAGED = 69,
-    VIQ_OWN_ADDRESSES = 70,
-    VIQ_HOSTS_NOT_HELD = 71,
-    VIQ_PLACES_DONT_FIT = 73,
     VIQ_NOT_NEAR = 72,
+    VIQ_HOSTS_NOT_HELD = 71,
 
     VIQ_IGNORED = 100, /* no answer: the reasons to ignore an event are the numbers above it */
     VIQ_OWN = 101,
@@ -162,9 +162,10 @@ enum {
     VIQ_GUARDED = 109
 };
 
-/* Whether an event was refused; whether it was ignored; whether the router is lost, by this event or an earlier one. */
+/* Whether an event or a configuration was refused; whether an event was ignored; whether the router is lost, by this
+ * event or an earlier one. */
 static inline bool viq_is_refused(uint32_t answer) {
-    return (answer > VIQ_DONE && answer < VIQ_MEMORY) || answer == VIQ_OWN_ADDRESSES;
+    return (answer > VIQ_DONE && answer < VIQ_MEMORY) || answer == VIQ_OWN_ADDRESSES || answer == VIQ_PLACES_DONT_FIT;
 }
 static inline bool viq_is_ignored(uint32_t answer) { return answer > VIQ_IGNORED; }
 static inline bool viq_is_lost(uint32_t answer) { return answer == VIQ_LOST || answer == VIQ_FAILED; }
@@ -322,13 +323,13 @@ uint32_t viq_save(const struct viq_router *router, uint8_t *room, size_t room_le
  * bring the same answers and packets, once viq_older and viq_query_version have set what they had. It has nothing to
  * send and no rows that were read, and its guard is on. All that viq_save wrote is restored, by a library that writes the same version of the
  * format. Bytes may be anything: all others are refused that aren't of a state at rest with timers in their periods. The
- * second argument is VIQ_ABI. It answers VIQ_DONE, a refusal of 60 to 69, 71 or 72, VIQ_MEMORY or VIQ_OTHER_ABI. It writes
- * what `router` points to as viq_new does. */
+ * second argument is VIQ_ABI. It answers VIQ_DONE, a refusal of saved bytes, VIQ_MEMORY or VIQ_OTHER_ABI. It writes what
+ * `router` points to as viq_new does. */
 VIQ_READ_ANSWER VIQ_NOT_NULL(1)
 uint32_t viq_restore(struct viq_router **router, uint32_t abi, const uint8_t *bytes, size_t length);
 
-/* ---- events: each answers VIQ_DONE, a reason to ignore, a refusal of 1 to 26, VIQ_UNTAKEN, VIQ_LOST, VIQ_FAILED or
- * VIQ_NO_ROUTER
+/* ---- events: each answers VIQ_DONE, a reason to ignore, a refusal of a packet or an event, VIQ_UNTAKEN, VIQ_LOST,
+ * VIQ_FAILED or VIQ_NO_ROUTER
  *
  * While packets of the event before are untaken each event answers VIQ_UNTAKEN, and nothing changes.
  *

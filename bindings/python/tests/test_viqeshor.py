@@ -15,7 +15,7 @@ from unittest import mock
 
 import viqeshor
 from viqeshor import Answer, Closed, DownstreamRow, NeighbourRow, Refused, Router, hosts
-from viqeshor.lab import packets
+from viqeshor.lab import facts, packets
 
 HELLO_ABOVE = "45C0001E000000000167CEAB0A000001E000000D2000DFFC00010002FFFF"
 HELLO_BELOW = "45C0001E000000000167CDAA0A000102E000000D2000DFFC00010002FFFF"
@@ -111,10 +111,9 @@ class Routers(unittest.TestCase):
         self.assertEqual((router.save(), router.packets()), (before, []))
 
     def test_kinds_of_answers(self):
-        """As `include/viqeshor/viqeshor.h` tells them by their numbers."""
         for answer in Answer:
-            is_refused = 1 <= answer <= 39 or answer in (70, 73)
-            self.assertEqual((answer.is_refused, answer.is_ignored), (is_refused, answer > 100), answer)
+            self.assertEqual(answer.is_refused, answer in facts.REFUSALS, answer)
+            self.assertEqual(answer.is_ignored, answer in facts.IGNORED.values(), answer)
 
     def test_another_configuration_that_is_refused(self):
         router = self.joined()

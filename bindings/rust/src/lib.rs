@@ -350,6 +350,10 @@ numbered! {
         ConfiguredRoutes = 37,
         /// Configured RP ranges that can't stand.
         ConfiguredRanges = 38,
+        /// Own addresses that can't stand.
+        OwnAddresses = 70,
+        /// A map of places that doesn't name each interface once.
+        PlacesDontFit = 73,
         /// The bytes are no saved state.
         NotOurs = 60,
         /// The state was saved in another version of its format.
@@ -370,14 +374,10 @@ numbered! {
         NotQuiet = 68,
         /// The saved state is damaged: its sum is another one.
         Damaged = 69,
-        /// Own addresses that can't stand.
-        OwnAddresses = 70,
-        /// The saved groups of older hosts can't be read, or are none that the saved router can have.
-        HostsNotHeld = 71,
-        /// A map of places that doesn't name each interface once.
-        PlacesDontFit = 73,
         /// A timer of the saved state ends later than it may, or a fact lies where none can.
         NotNear = 72,
+        /// The saved groups of older hosts can't be read, or are none that the saved router can have.
+        HostsNotHeld = 71,
     }
 }
 

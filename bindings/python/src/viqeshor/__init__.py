@@ -104,8 +104,8 @@ OLDER_HOSTS = {"none": 0, "v2": 1, "all": 2}
 
 
 class Answer(enum.IntEnum):
-    """What became of an event. `docs/SCENARIOS.md` has the refusals, 1 to 39, and the reasons to ignore, from 101.
-    Those of 40 to 51 and of 53 to 55 are raised as an `Error`, and so are the refusals of saved bytes, 60 to 72, which
+    """What became of an event. `docs/SCENARIOS.md` has the refusals, and the reasons to ignore, from 101. Answers that
+    are neither of these nor DONE or NO_TIMER are raised as an `Error`, and so are the refusals of saved bytes, which
     `docs/SAVED.md` has."""
     DONE = 0
     SHORT = 1
@@ -133,6 +133,8 @@ class Answer(enum.IntEnum):
     BAD_DELAY = 36
     CONFIGURED_ROUTES = 37
     CONFIGURED_RANGES = 38
+    OWN_ADDRESSES = 70
+    PLACES_DONT_FIT = 73
     MEMORY = 40
     FAILED = 41
     LOST = 43
@@ -152,10 +154,8 @@ class Answer(enum.IntEnum):
     NOT_SETTLED = 67
     NOT_QUIET = 68
     DAMAGED = 69
-    OWN_ADDRESSES = 70
-    HOSTS_NOT_HELD = 71
-    PLACES_DONT_FIT = 73
     NOT_NEAR = 72
+    HOSTS_NOT_HELD = 71
     OWN = 101
     NOT_FOR_ME = 102
     OTHER_TYPE = 103

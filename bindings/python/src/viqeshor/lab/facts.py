@@ -46,6 +46,9 @@ IGNORED = {
     "Already": 108,
     "Guarded": 109,
 }
+# The numbers of the refusals of saved bytes, and of states that no router goes on from.
+REFUSED_BYTES = (60, 61, 62, 63, 64, 65, 69)
+REFUSED_STATES = (66, 67, 68, 72, 71)
 # What the refusals of moves, by their numbers as texts, and the reasons to ignore them mean.
 MEANINGS = {
     "1": "the packet is shorter than its lengths and counts say: is it cut, or is an Ethernet header before it?",
