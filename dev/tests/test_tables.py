@@ -195,10 +195,14 @@ class Tables(unittest.TestCase):
         self.assertIn("tables: linux/monitoring/alerts.yml names viqeshor_bfd_session_up, which is no metric", lines)
 
     def test_a_default_is_written_wherever_it_stands(self):
-        files = {"tables/defaults.toml", "bindings/c/abi.txt", *tables.read("defaults")["places"], tables.FOR_TOOLS}
-        self.changed("tables/defaults.toml", "query_interval = 125 ", "query_interval = 471147 ")
-        self.assertEqual(self.ran("--write")[0], 0)
-        self.assertEqual(self.holders("471147"), files)
+        for name, value in (("query_interval", 125), ("override_interval", 2500), ("priority", 1)):
+            with self.subTest(name):
+                self.setUp()
+                places = tables.read("defaults")["places"]
+                files = {path for path, texts in places.items() if any(f"@{name}" in text for text in texts)}
+                self.changed("tables/defaults.toml", f"\n{name} = {value}", f"\n{name} = 471147")
+                self.assertEqual(self.ran("--write")[0], 0)
+                self.assertEqual(self.holders("471147"), {"tables/defaults.toml", tables.FOR_TOOLS, *files})
         self.changed("tables/defaults.toml", "query_response_interval = 100 ", "query_response_interval = 93 ")
         self.assertEqual(self.ran("--write")[0], 0)
         self.assertEqual(self.holders("query_response = 9.3 "), {"linux/viqeshord.toml"})

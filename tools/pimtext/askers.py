@@ -8,6 +8,7 @@ from typing import TYPE_CHECKING
 from pimtext import streams
 from viqeshor.lab import asked, packets, printed, wishes, words
 from viqeshor.lab.addresses import ip_address, is_source_specific
+from viqeshor.lab.facts import USUAL
 from pimtext.cause import Cause
 from viqeshor.lab.printed import ANY
 from pimtext.run import gathered, is_local, some, times
@@ -190,8 +191,8 @@ class Askers:
     def is_over(self, report: Heard) -> bool:
         """Whether the router that took a report keeps a wish no longer than since then (RFC 3376, 8.4)."""
         state = self.known[report.step.router]
-        table = state.router.table
-        kept = 1000 * table.get("rv", 2) * table.get("qi", 125) + 100 * table.get("qri", 100)
+        table = USUAL | state.router.table
+        kept = 1000 * table["rv"] * table["qi"] + 100 * table["qri"]
         return state.moment - report.step.moment >= kept
 
     def is_known(self, dr: str, link: str, group: str) -> bool:

@@ -9,6 +9,7 @@ from typing import TYPE_CHECKING
 
 from pimtext import served
 from viqeshor.lab import packets, words
+from viqeshor.lab.facts import USUAL
 from pimtext.cause import Cause
 from pimtext.run import gathered, times
 from pimtext.watched import seconds
@@ -131,8 +132,8 @@ class Latencies:
     def by_interval(self, phase: Phase) -> str:
         """The routers of the link ask `rv` times, each `lmqi` apart, before they take it that nobody answers."""
         names = dict.fromkeys(name for name, _ in self.run.ports().get(phase.stream.link, []))
-        tables = [(name, self.run.settings.at(name, phase.ended).router.table) for name in names]
-        waits = [(100 * table.get("lmqi", 10) * table.get("rv", 2), name) for name, table in tables]
+        tables = [(name, USUAL | self.run.settings.at(name, phase.ended).router.table) for name in names]
+        waits = [(100 * table["lmqi"] * table["rv"], name) for name, table in tables]
         most, name = max(waits, default=(0, ""))
         if not most:
             return ""

@@ -23,7 +23,7 @@ if TYPE_CHECKING:
 
 
 # How long a Prune on a link waits for a Join that overrides it where nothing is configured, in ms.
-USUAL_OVERRIDE = 3000
+USUAL_OVERRIDE = sum(USUAL[key] for key in DELAYS)
 # So many steps after a Prune is overridden what it did further up may last.
 AFTERWARDS = 40
 # How many neighbours an interface has at most.

@@ -14,6 +14,7 @@ from itertools import chain
 from typing import TYPE_CHECKING, Any
 
 from viqeshor.lab.addresses import ranges_of, routes_of
+from viqeshor.lab.facts import USUAL
 
 if TYPE_CHECKING:
     from ipaddress import IPv4Network
@@ -118,7 +119,7 @@ class Scenario:
 
 
 def interface_of(number: int, table: dict[str, Any]) -> Interface:
-    return Interface(number, table["link"], IPv4Interface(table["address"]), table.get("priority", 1))
+    return Interface(number, table["link"], IPv4Interface(table["address"]), table.get("priority", USUAL["priority"]))
 
 
 def interfaces_of(table: dict[str, Any]) -> list[Interface]:
