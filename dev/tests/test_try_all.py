@@ -62,6 +62,7 @@ class Run(unittest.TestCase):
         both = ["build", "router"]
         for name, wanted in {"lint": [], "test_lab": ["build"], "router": ["build"], "test_from_frr": both}.items():
             self.assertEqual([each.name for each in try_all.chosen([name], every)], [*wanted, name])
+        self.assertEqual([each.name for each in try_all.chosen(["linux", "build"], every)], [*both, "linux"])
 
     def test_what_is_not_there(self):
         status, lines = self.ran(parts.Part("one", ("no_such_program",), alone=True))

@@ -38,13 +38,15 @@ class Part:
 
     def environment(self) -> dict[str, str]:
         """Cargo's commands have a folder each, so that they don't wait for one another; what the router is built of is
-        what its tests are built of: by Debian's Rust where that is there, beside another one too."""
+        what its tests are built of: by Debian's Rust where that is there, beside another one too. What Python compiles
+        is kept, whatever the caller's environment says: tests call tools hundreds of times."""
         target = "linux" if self.name == ROUTER else self.name
         before = [DEBIAN] if target == "linux" else []
         return os.environ | {
             "PATH": os.pathsep.join([*before, os.environ.get("PATH", os.defpath)]),
             "PIMLAB_BUILD": "unproved", "CARGO_TARGET_DIR": str(TOP / "out" / "cargo" / target),
             "CARGO_TERM_COLOR": "never", "VIQESHOR_LIB_DIR": str(INSTALLED / "lib"), "VIQESHORD": str(VIQESHORD),
+            "PYTHONDONTWRITEBYTECODE": "", "PYTHONPYCACHEPREFIX": str(TOP / "out" / "pycache"),
         }
 
 

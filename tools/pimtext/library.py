@@ -91,10 +91,12 @@ def unproved_router(folder: Path | None) -> Path:
     path = kept_library()
     if found := brought(path, "library", folder):
         return found
-    if not path.exists():
-        if shutil.which("rt") is None:
-            sys.exit("library: it isn't built, and there is no command `rt`, the Rattle kit's, that could build it")
-        print("library: building once, about a minute; the build isn't proved", file=sys.stderr, flush=True)
+    if path.exists():
+        os.utime(path)
+        return path
+    if shutil.which("rt") is None:
+        sys.exit("library: it isn't built, and there is no command `rt`, the Rattle kit's, that could build it")
+    print("library: building once, about a minute; the build isn't proved", file=sys.stderr, flush=True)
     try:
         unproved.have_kept(path, "library")
     except kit.Failed as failed:
