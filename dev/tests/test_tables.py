@@ -92,7 +92,7 @@ class Tables(unittest.TestCase):
                 self.assertEqual(self.ran("--write")[0], 0)
                 self.assertEqual(self.holders(f"{of}.BadOption = 80"), {f"crates/{crate}/specs/Refused.antt"})
                 self.assertEqual(self.holders(f"{of}::BadOption => 80,"), {f"crates/{crate}/src/refusal.rt"})
-                self.assertEqual(self.holders("    /// an odd about\n    BadOption,"), {f"crates/{crate}/src/refusal.rt"})
+                self.assertEqual(self.holders("/// an odd about\n    BadOption,"), {f"crates/{crate}/src/refusal.rt"})
                 self.assertEqual(self.holders("| 80 | `BadOption` | an odd when |"), {"docs/SAVED.md"})
 
     def test_so_is_one_of_a_configuration_above_the_numbers_of_others(self):
@@ -106,7 +106,8 @@ class Tables(unittest.TestCase):
         text = '[[answer]]\nnumber = 56\nname = "BadCall"\nabout = "An odd call."\nsays = "an odd call"\n\n'
         self.changed("tables/answers.toml", "[[answer]]\nnumber = 60\n", f"{text}[[answer]]\nnumber = 60\n")
         self.assertEqual(self.ran("--write")[0], 0)
-        self.assertEqual(self.holders("/// An odd call.\npub const BAD_CALL: u32 = 56;"), {"crates/pim_c/src/returned.rt"})
+        self.assertEqual(self.holders("/// An odd call.\npub const BAD_CALL: u32 = 56;"), {
+            "crates/pim_c/src/returned.rt"})
         self.assertEqual(self.holders('VIQ_BAD_CALL: return "an odd call";'), {"bindings/c/texts.c"})
 
     def test_a_table_that_lacks_something_is_told_and_nothing_is_written(self):

@@ -89,10 +89,10 @@ class Table(unittest.TestCase):
         for path in TOP.glob("*/tests/test_*.py"):
             self.assertIn(f"`dev/try_tools {path.stem.removeprefix('test_')}`", self.said)
 
-    def test_each_bench_is_a_part(self):
-        for path in (stored.TORTURE / "bench").iterdir():
-            if path.is_file() and not path.suffix:
-                self.assertIn(f"`torture/bench/{path.name} ", self.said)
+    def test_all_of_torture_is_a_part(self):
+        """What writes scenarios has a test."""
+        for name in stored.tool("run").NAMES:
+            self.assertIn("`dev/try_tools hostile`" if name == "hostile" else f"`torture/run {name} ", self.said)
 
     def test_the_router_is_built_by_the_oldest_rust_there_is(self):
         first = {part.name: part.environment()["PATH"].split(os.pathsep)[0] for part in self.parts}

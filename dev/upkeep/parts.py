@@ -1,5 +1,6 @@
 """The parts of `dev/try_all`: what each runs, where, and what it waits for."""
 import os
+import shlex
 import sys
 from collections.abc import Iterator
 from dataclasses import dataclass
@@ -23,8 +24,8 @@ DEBIAN = "/usr/bin"
 LONG = ("embed", "check_counts", "why", "lab", "pimlab", "unproved", "mend", "mroute", "usual_mistakes", "recorded",
     "play")
 ALONE = ("beside", "check_counts", "check_docs", "cited", "copies", "crates_table", "edits", "embed", "gate",
-    "gate_times", "hostile", "lint", "packets", "rt", "spoils", "tables", "together", "told", "try_all", "try_edits",
-    "unused", "wrong_definitions")
+    "gate_times", "hostile", "lint", "packets", "rt", "spoils", "tables", "together", "told", "torture", "try_all",
+    "try_edits", "unused", "wrong_definitions")
 
 
 @dataclass(frozen=True)
@@ -52,7 +53,7 @@ class Part:
 
 def tool(words: str, name: str | None = None, alone: bool = False, after: str = BUILD) -> Part:
     """A tool's own check, by its command."""
-    command, *rest = words.split()
+    command, *rest = shlex.split(words)
     return Part(name or Path(command).name, (sys.executable, command, *rest), alone=alone, after=after)
 
 
@@ -80,13 +81,16 @@ def tests(alone: bool) -> Iterator[Part]:
             yield tool(f"dev/try_tools {name}", f"test_{name}", alone, ROUTER if name in OF_FRR else BUILD)
 
 
-def benches() -> Iterator[Part]:
-    """Each measurement of `torture/bench` on a small size: that it runs, and finds what it should; its figures say
-    nothing."""
-    small = {"events": "--facts 10", "forward": "--rows 10 --copies 1 --packets 640"}
-    for name, sizes in small.items():
-        yield tool(f"torture/bench/{name} --unproved {sizes}", f"bench_{name}")
-    yield Part("bench_run", (sys.executable, "torture/bench/run", "--unproved", "1", "", "1000"), alone=True)
+# What `torture/run` runs on a small size: that it finds what it should. Figures of the last three say nothing.
+SMALL = {
+    "restarted": "--unproved --runs 10 --spoilt 20 --facts 1000", "plane": "--unproved --runs 100",
+    "memory": "--unproved --seconds 20", "program": "--every 10", "events": "--unproved --facts 10",
+    "forward": "--unproved --rows 10 --copies 1 --packets 640", "timers": "--unproved 1 '' 1000",
+}
+
+
+def torture() -> Iterator[Part]:
+    return (tool(f"torture/run {name} {words}", name, alone=name == "timers") for name, words in SMALL.items())
 
 
 def parts() -> list[Part]:
@@ -101,10 +105,6 @@ def parts() -> list[Part]:
         Part("linux", ("cargo", "test", *LINUX), "linux", after=ROUTER),
         *tests(False),
         tool("dev/check_docs", after=ROUTER),
-        tool("torture/restarted --unproved --runs 10 --spoilt 20 --facts 1000"),
-        tool("torture/plane --unproved --runs 100"),
-        tool("torture/refuse_memory --unproved --seconds 20"),
-        tool("torture/refuse_program --every 10"),
-        *benches(),
+        *torture(),
         Part("rust_lint", ("cargo", "clippy", "--offline", *STRICT), "bindings/rust"),
     ]

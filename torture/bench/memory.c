@@ -1,4 +1,4 @@
-// Preloaded into a program with a router: adds up the sizes of the blocks that it holds. `torture/bench/events` builds
+// Preloaded into a program with a router: adds up the sizes of the blocks that it holds. `torture/run events` builds
 // it and says by the environment:
 //
 //   BYTES_ALLOC, BYTES_REALLOC, BYTES_DEALLOC  where the program's own functions lie, in hexadecimal

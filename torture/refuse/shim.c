@@ -1,4 +1,4 @@
-// Preloaded into `pimlab`: refuses one allocation, or refuses, shortens or interrupts one write. `torture/refuse_program` builds it
+// Preloaded into `pimlab`: refuses one allocation, or refuses, shortens or interrupts one write. `torture/run program` builds it
 // and says by the environment what is to be done:
 //
 //   REFUSE_ALLOC, REFUSE_REALLOC  where the program's own functions lie, in hexadecimal

@@ -27,19 +27,8 @@ HOLDTIMES = (0xFFFF,) * 8 + (105, 20, 3, 0)
 JOINED_FOR = (0xFFFF,) * 4 + (210,) * 4 + (60, 3, 0)
 # What is wrong with a packet that claims to be data.
 SPOILT = (
-    "version",
-    "header",
-    "total",
-    "short",
-    "long",
-    "checksum",
-    "fragment",
-    "source",
-    "own",
-    "unicast",
-    "local",
-    "igmp",
-    "pim",
+    "version", "header", "total", "short", "long", "checksum", "fragment", "source", "own", "unicast", "local",
+    "igmp", "pim",
 )
 
 
@@ -335,20 +324,8 @@ class Happenings:
         return self.advance(max(to, 0))
 
     CHANCES = {
-        "data": 20,
-        "wait": 14,
-        "join_prune": 12,
-        "report": 9,
-        "hello": 4,
-        "assert_": 5,
-        "register": 4,
-        "spoilt": 4,
-        "link": 2,
-        "register_stop": 3,
-        "query": 1,
-        "new_routes": 2,
-        "new_ranges": 1,
-        "refusal": 0.05,
+        "data": 20, "wait": 14, "join_prune": 12, "report": 9, "hello": 4, "assert_": 5, "register": 4, "spoilt": 4,
+        "link": 2, "register_stop": 3, "query": 1, "new_routes": 2, "new_ranges": 1, "refusal": 0.05,
     }
 
     def refusal(self) -> Event:

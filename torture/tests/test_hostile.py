@@ -1,14 +1,15 @@
-"""`torture/hostile`: how it spoils packets, and that what it writes is what is stored."""
+"""`torture/run hostile`: how it spoils packets, and that what it writes is what is stored."""
 import tempfile
 import unittest
+from argparse import Namespace
 from pathlib import Path
 from unittest import mock
 
+from stress import hostile
 from viqeshor.lab import packets
 from viqeshor.lab.packets import Entry, GroupEntries, Hello, Record, octets, refusal
 from tests import stored
 
-hostile = stored.tool("hostile")
 NEIGHBOUR, OWN = "10.0.0.1", "10.0.0.2"
 HELLO = packets.write_hello(NEIGHBOUR, Hello(105, 500, 2500, 1, 9))
 JOIN = packets.write_join_prune(NEIGHBOUR, OWN,
@@ -101,8 +102,8 @@ class Stored(unittest.TestCase):
             for path in stored.DATA.iterdir():
                 if not path.name.startswith("hostile_"):
                     (room / path.name).write_bytes(path.read_bytes())
-            with mock.patch.object(hostile, "DATA", room):
-                hostile.main()
+            with mock.patch.object(hostile, "STORED", room):
+                hostile.is_right(Namespace())
             for name in hostile.SPOILT:
                 for ending in (".toml", ".out"):
                     made, kept = (where / f"hostile_{name}{ending}" for where in (room, stored.DATA))

@@ -1,12 +1,11 @@
-"""torture/plane: a plane that keeps its duties sends what the router alone sends, and one that forgets any of them
-doesn't.
-"""
+"""`torture/run plane`: a plane that keeps its duties sends what the router alone sends, and one that forgets any of
+them doesn't."""
 import os
 import shutil
 import unittest
 
 from pimtext.library import Library
-from tests import stored
+from stress import plane
 
 CC = os.environ.get("CC", "cc")
 
@@ -17,7 +16,7 @@ class Planes(unittest.TestCase):
 
     @classmethod
     def setUpClass(cls):
-        cls.tool = stored.tool("plane")
+        cls.tool = plane
         cls.library = cls.tool.refusing(Library(is_proved=False))
 
     def diverging(self, *forgets):

@@ -1,5 +1,5 @@
-"""torture/restarted: a router that is saved and restored after each event does what an unbroken one does, and one that
-is restored of other bytes doesn't."""
+"""`torture/run restarted`: a router that is saved and restored after each event does what an unbroken one does, and one
+that is restored of other bytes doesn't."""
 import os
 import random
 import shutil
@@ -9,7 +9,8 @@ from unittest import mock
 
 from pimtext import saved as by_document
 from pimtext.library import Library
-from tests import stored
+from stress import restarted
+from viqeshor.lab.facts import REFUSED_BYTES, REFUSED_STATES
 
 CC = os.environ.get("CC", "cc")
 
@@ -71,10 +72,10 @@ class Restarted(unittest.TestCase):
 
     @classmethod
     def setUpClass(cls):
-        cls.tool = stored.tool("restarted")
+        cls.tool = restarted
         cls.library = Library(is_proved=False).shared()
         cls.runs = cls.tool.random_runs(cls.library, cls.asked)
-        cls.stored = cls.tool.stored(cls.library, sorted(cls.tool.STORED.glob("*.toml")))
+        cls.stored = cls.tool.stored(cls.library)
 
     def test_random_runs(self):
         self.assertEqual((self.runs.wrong, self.runs.routers, self.runs.restarts), ([], 20, 1600))
@@ -87,7 +88,7 @@ class Restarted(unittest.TestCase):
     def test_spoilt_bytes(self):
         for saved in self.runs.saved[:5]:
             for given in self.tool.spoilt(saved, 20, random.Random(1)):
-                self.assertIn(self.tool.taken(self.library, given), [0, *self.tool.REFUSALS])
+                self.assertIn(self.tool.taken(self.library, given), [0, *REFUSED_BYTES, *REFUSED_STATES])
             self.assertEqual(self.tool.taken(self.library, saved), 0)
 
     def test_each_flipped_bit_is_told(self):

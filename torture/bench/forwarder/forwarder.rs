@@ -1,4 +1,4 @@
-//! The router as a library and a plain forwarder take the same packets, in one process. `torture/bench/forward` builds and runs it.
+//! The router as a library and a plain forwarder take the same packets, in one process. `torture/run forward` builds and runs it.
 //!
 //!     forwarder SETUP COPIES ROWS BYTES PACKETS time|count
 //!

@@ -1,7 +1,6 @@
-#!/usr/bin/env python3
 """Refuses memory and writes to the program, one call at a time, and looks at what it says then.
 
-    torture/refuse_program [--every N] [FILE.toml ..]
+    torture/run program [--every N] [FILE.toml ..]
 
 Each scenario (the two routers' run, if none is named) is played once for each allocation, which is refused, and three
 times for each write, which is refused, cut to one byte or interrupted; with --every N for each Nth of these alone. Each
@@ -9,21 +8,19 @@ run must print all lines; or whole lines from their start, and then `pimlab: no 
 was refused, the lines up to that write, and then `pimlab: wire fault` with status 3. A line a scenario and a sum are
 printed. The exit status is 1 where anything else came.
 
-It needs a C compiler (`CC`, or `cc`), and the program with its symbols: the proved one, or the one that ./pimlab keeps.
+It needs the program with its symbols: the proved one, or the one that ./pimlab keeps.
 """
 import argparse
 import collections
-import os
 import subprocess
 import sys
 import tempfile
 from pathlib import Path
 
-HERE = Path(__file__).resolve().parent
-TOP = HERE.parent
-sys.path.insert(0, str(TOP / "tools"))
-from pimtext import program  # noqa: E402
+from pimtext import program
+from pimtext.library import CC
 
+TOP = Path(__file__).resolve().parent.parent.parent
 OFTEN = ("alloc", "write", "short", "again")
 MEMORY = (4, b"pimlab: no memory\n")
 WIRE = (3, b"pimlab: wire fault\n")
@@ -38,7 +35,7 @@ def places(binary: str) -> dict[str, str]:
         if len(words) == 3 and words[1] == "T" and words[2] in names:
             found[names[words[2]]] = words[0]
     if len(found) < len(names):
-        sys.exit(f"refuse_program: {binary} doesn't tell where it allocates")
+        sys.exit(f"torture/run program: {binary} doesn't tell where it allocates")
     return found
 
 
@@ -48,9 +45,8 @@ class Program:
     def __init__(self, binary: str, room: str) -> None:
         self.binary, self.counts = binary, Path(room) / "counts"
         shim = Path(room) / "shim.so"
-        compiler = os.environ.get("CC", "cc")
-        subprocess.run([compiler, "-O2", "-Wall", "-shared", "-fPIC", "-o", shim, HERE / "refuse" / "shim.c"],
-            check=True)
+        source = TOP / "torture" / "refuse" / "shim.c"
+        subprocess.run([CC, "-O2", "-Wall", "-shared", "-fPIC", "-o", shim, source], check=True)
         self.env = {**places(binary), "LD_PRELOAD": str(shim), "REFUSE_COUNTS": str(self.counts)}
         # The sanitized build has a runtime of its own, which wants to be the first library.
         self.env["ASAN_OPTIONS"] = "verify_asan_link_order=0:detect_leaks=0"
@@ -99,12 +95,13 @@ def sweep(
     return allocations, writes, seen, odd
 
 
-def main() -> None:
-    parser = argparse.ArgumentParser(description=__doc__, formatter_class=argparse.RawDescriptionHelpFormatter)
+def add_words(parser: argparse.ArgumentParser) -> None:
     parser.add_argument("--every", type=int, default=1, metavar="N")
     parser.add_argument("files", nargs="*", type=Path, metavar="FILE.toml")
-    asked = parser.parse_args()
-    total, failed = collections.Counter(), False
+
+
+def is_right(asked: argparse.Namespace) -> bool:
+    total = collections.Counter()
     with tempfile.TemporaryDirectory(prefix="refuse-") as room:
         played = Program(program.kept(), room)
         for scenario in asked.files or [TOP / "crates" / "pimlab" / "data" / "two_routers.toml"]:
@@ -114,10 +111,5 @@ def main() -> None:
             for one in odd:
                 print("   ", *one)
             total += seen
-            failed |= bool(odd)
     print(f"{sum(total.values())} runs, {total[None]} with another outcome")
-    sys.exit(failed)
-
-
-if __name__ == "__main__":
-    main()
+    return not total[None]

@@ -1,11 +1,10 @@
-#!/usr/bin/env python3
 """What timers and tries cost beside plain `BTreeMap`s that do the same.
 
-    torture/bench/run [--unproved] [REPEATS [PART [COUNT]]]
+    torture/run timers [--unproved] [REPEATS [PART [COUNT]]]
 
 Builds a program in Rust (torture/bench/main.rs) with the machine code of the crates, in out/bench, and runs it: all
 parts or the one that is named, each so many times, with so many timers and lookups. The crates are proved first unless
-they are; with --unproved the code is made of the same sources before any proof. It wants the kit and rustc.
+they are; with --unproved the code is made of the same sources before any proof. It wants rustc.
 """
 from __future__ import annotations
 
@@ -18,13 +17,12 @@ import sys
 import tempfile
 from pathlib import Path
 
-HERE = Path(__file__).resolve().parent
-TOP = HERE.parent.parent
-sys.path.insert(1, str(TOP / "tools"))
-from pimtext import kit  # noqa: E402
-from pimtext.kept import crates_of  # noqa: E402
-from pimtext.modules import Module, parts  # noqa: E402
+from pimtext import kit
+from pimtext.kept import crates_of
+from pimtext.modules import Module, parts
 
+TOP = Path(__file__).resolve().parent.parent.parent
+BENCH = TOP / "torture" / "bench"
 ROOM = TOP / "out" / "bench"
 NAME, BELOW = "bench", ["pim_types", "pim_meter", "pim_trie", "pim_timers"]
 CALL = re.compile(rb'"bench::(bench_(?!mark)\w+)"')
@@ -46,7 +44,7 @@ def crates() -> dict[str, list[str]]:
 
 def write_sources(folder: Path) -> None:
     folder.mkdir(parents=True)
-    for file in (HERE / "crate").iterdir():
+    for file in (BENCH / "crate").iterdir():
         shutil.copyfile(file, folder / file.name.removesuffix(".in"))
 
 
@@ -84,19 +82,16 @@ def unproved(room: Path) -> Path:
     return made
 
 
-def main() -> None:
-    parser = argparse.ArgumentParser(description=__doc__, formatter_class=argparse.RawDescriptionHelpFormatter)
+def add_words(parser: argparse.ArgumentParser) -> None:
     parser.add_argument("--unproved", action="store_true", help="of the same sources, before any proof")
     parser.add_argument("words", nargs="*", metavar="REPEATS [PART [COUNT]]")
-    asked = parser.parse_args()
+
+
+def is_right(asked: argparse.Namespace) -> bool:
     ROOM.mkdir(parents=True, exist_ok=True)
     with tempfile.TemporaryDirectory(dir=ROOM) as room:
         made = unproved(Path(room)) if asked.unproved else proved()
-    words = ["rustc", "--edition", "2024", "-C", "opt-level=3", "-C", "target-cpu=x86-64", HERE / "main.rs"]
+    words = ["rustc", "--edition", "2024", "-C", "opt-level=3", "-C", "target-cpu=x86-64", BENCH / "main.rs"]
     words += ["-o", ROOM / "main", "-C", f"link-arg={made}", "-L", kit.kit() / "c", "-l", "static=libc_c"]
     subprocess.run([str(word) for word in words], check=True)
-    os.execv(ROOM / "main", ["main", *asked.words])
-
-
-if __name__ == "__main__":
-    main()
+    return subprocess.run([ROOM / "main", *asked.words]).returncode == 0

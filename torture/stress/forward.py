@@ -1,7 +1,6 @@
-#!/usr/bin/env python3
 """The proved router as a library beside a plain forwarder, in one process: what a packet costs both.
 
-    torture/bench/forward [--rows N ..] [--copies N ..] [--bytes N] [--packets N] [--unproved | --from FOLDER |
+    torture/run forward [--rows N ..] [--copies N ..] [--bytes N] [--packets N] [--unproved | --from FOLDER |
     --archive FILE]
 
 The plain forwarder (torture/bench/forwarder/plain.rs, in Rust, `rustc -O`) has a hash map from (S,G) to a row. It tests
@@ -14,8 +13,7 @@ are written there.
 A line for each N and each number of copies: processor instructions a packet in both, counted by callgrind (Debian's
 valgrind), and their ratio; nanoseconds a packet, and their ratio. For these so many packets of any rows go through both
 in turn, 64 at a time, with a millisecond between, and the median counts. Packets have so many bytes. The first line
-says which library it is: the proved one, which is proved first unless it is, the unproved one, or FILE. It wants the
-kit, a C compiler and rustc.
+says which library it is. It wants valgrind and rustc.
 """
 import argparse
 import re
@@ -23,11 +21,10 @@ import subprocess
 import tempfile
 from pathlib import Path
 
-from loaded import FIRST_GROUP, IS_EX, RECORDS_A_REPORT, member_record, packet, report_packet
 from pimtext.library import add_choice, chosen
+from stress.loaded import FIRST_GROUP, IS_EX, RECORDS_A_REPORT, member_record, packet, report_packet
 
-HERE = Path(__file__).resolve().parent
-
+FORWARDER = Path(__file__).resolve().parent.parent / "bench" / "forwarder" / "forwarder.rs"
 SOURCES_A_GROUP = 100
 # A batch of the program.
 BATCH = 64
@@ -80,23 +77,21 @@ def line(program: Path, copies: int, rows: int, asked: argparse.Namespace) -> No
     print("| " + " | ".join(it if isinstance(it, str) else f"{it:,}" for it in cells) + " |", flush=True)
 
 
-def main() -> None:
-    parser = argparse.ArgumentParser(description=__doc__, formatter_class=argparse.RawDescriptionHelpFormatter)
+def add_words(parser: argparse.ArgumentParser) -> None:
     parser.add_argument("--rows", type=int, nargs="+", default=[10, 1000, 100_000])
     parser.add_argument("--copies", type=int, nargs="+", default=[1, 10])
     parser.add_argument("--bytes", type=int, default=128)
     parser.add_argument("--packets", type=int, default=64_000)
     add_choice(parser)
-    asked = parser.parse_args()
+
+
+def is_right(asked: argparse.Namespace) -> bool:
     library, build = chosen(asked)
-    program = library.rust_program(HERE / "forwarder" / "forwarder.rs")
+    program = library.rust_program(FORWARDER)
     print(f"archive: {build}")
     print("| rows | copies | router, instructions | plain, instructions | ratio | router, ns | plain, ns | ratio |")
     print("|---|---|---|---|---|---|---|---|", flush=True)
     for rows in asked.rows:
         for copies in asked.copies:
             line(program, copies, rows, asked)
-
-
-if __name__ == "__main__":
-    main()
+    return True

@@ -1,7 +1,6 @@
-#!/usr/bin/env python3
 """Refuses memory to the library, one allocation at a time, and looks at what it says then.
 
-    torture/refuse_memory [--seconds N] [--unproved | --from FOLDER | --archive FILE] [FILE.toml ..]
+    torture/run memory [--seconds N] [--unproved | --from FOLDER | --archive FILE] [FILE.toml ..]
 
 Each router of a scenario is played through the static library: its moves, and the packets that by its stored lines
 (FILE.out) were delivered to it. It is played once more as behind a data plane, which reports each packet of data by
@@ -14,28 +13,25 @@ router can do without the memory, such as room that it keeps for later packets, 
 event that is ignored, or refused for its bytes, its timestamp or its interface, never loses the router. In the end no
 block is left. Without files the stored scenarios are played, the small ones first, for at most N seconds (300). A line
 for each router and a sum are printed. The exit status is 1 where anything else came.
-
-It needs the kit, and a C compiler (`CC`, or `cc`). With --unproved the build of tools/library --unproved is tried, and
-with --archive another archive.
 """
 import argparse
 import re
 import subprocess
-import sys
 import time
+from collections import Counter
 from collections.abc import Iterable, Iterator
 from pathlib import Path
 from typing import Any
 
-HERE = Path(__file__).resolve().parent
-sys.path.insert(0, str(HERE.parent / "tools"))
-from pimtext import pimlab  # noqa: E402
-from viqeshor.lab import fed, story  # noqa: E402
-from viqeshor.lab.addresses import address_in, prefix_in  # noqa: E402
-from pimtext.library import add_choice, chosen  # noqa: E402
+from pimtext.library import add_choice, chosen
+from stress.stored import STORED, Stored, routers
+from viqeshor.lab import fed, story
+from viqeshor.lab.addresses import address_in, prefix_in
 
-STORED = HERE.parent / "crates" / "test_scenarios" / "data"
+PLAYER = Path(__file__).resolve().parent.parent / "refuse" / "library.c"
 SUM = re.compile(r"(\d+) routers lost, (\d+) calls that changed nothing, (\d+) done without, (\d+) other")
+# What its numbers are: lost, nothing changed, done without, and anything else.
+CAME = ("lost", "unchanged", "without", "other")
 WRAPS = [f"-Wl,--wrap={name}" for name in ("malloc", "realloc", "free")]
 
 
@@ -80,56 +76,42 @@ def event_lines(step: story.Step) -> Iterator[str]:
     yield " ".join(map(str, [event.name, event.draw, *words]))
 
 
-def runs_of(path: Path) -> Iterator[tuple[str, str]]:
-    """For each router of a scenario its name, and the lines that play it."""
-    lines = path.with_suffix(".out").read_text().splitlines()
-    if not lines:
-        return
-    told = pimlab.read(path)
-    steps, _ = story.played(told, lines)
-    for router in told.routers:
-        events = [line for step in steps if step.router == router.name for line in event_lines(step)]
-        if events:
-            yield router.name, "\n".join([*config_lines(router.table), *events]) + "\n"
+def played(router: Stored) -> str:
+    """The lines that play a router; none where nothing came to it."""
+    events = [line for step in router.steps for line in event_lines(step)]
+    return "\n".join([*config_lines(router.table), *events]) + "\n" if events else ""
 
 
 def stored() -> list[Path]:
     return sorted(STORED.glob("*.toml"), key=lambda path: path.with_suffix(".out").stat().st_size)
 
 
-def main() -> None:
-    parser = argparse.ArgumentParser(description=__doc__, formatter_class=argparse.RawDescriptionHelpFormatter)
+def refused(player: Path, router: Stored, lines: str) -> Counter[str]:
+    """What came of the runs of a router, which is printed."""
+    said = subprocess.run([player], input=lines, capture_output=True, text=True).stdout
+    print(f"{router.scenario} {router.name}: {said.strip()}", flush=True)
+    if (found := SUM.search(said)) is None:
+        return Counter(other=1, routers=1)
+    return Counter(dict(zip(CAME, map(int, found.groups())))) + Counter(routers=1)
+
+
+def add_words(parser: argparse.ArgumentParser) -> None:
     parser.add_argument("--seconds", type=int, default=300, metavar="N")
     add_choice(parser)
     parser.add_argument("files", nargs="*", type=Path, metavar="FILE.toml")
-    asked = parser.parse_args()
-    player = chosen(asked)[0].program(HERE / "refuse" / "library.c", *WRAPS)
-    end, count, scenarios = time.monotonic() + asked.seconds, 0, 0
-    lost, unchanged, done_without, failed = 0, 0, 0, 0
+
+
+def is_right(asked: argparse.Namespace) -> bool:
+    player = chosen(asked)[0].program(PLAYER, *WRAPS)
+    end, scenarios, sums = time.monotonic() + asked.seconds, 0, Counter()
     for path in asked.files or stored():
         if time.monotonic() > end:
             break
         scenarios += 1
-        for name, lines in runs_of(path):
-            said = subprocess.run([player], input=lines, capture_output=True, text=True).stdout
-            print(f"{path.stem} {name}: {said.strip()}", flush=True)
-            found = SUM.search(said)
-            count += 1
-            if found is None:
-                failed += 1
-                continue
-            lost += int(found[1])
-            unchanged += int(found[2])
-            done_without += int(found[3])
-            failed += int(found[4])
-    where = f"in runs of {count} routers of {scenarios} scenarios"
-    print(
-        f"{lost} routers lost, {unchanged} calls that changed nothing and {done_without} done without, {where}, "
-        f"{failed} with another "
-        "outcome"
-    )
-    sys.exit(failed > 0)
-
-
-if __name__ == "__main__":
-    main()
+        for router in routers([path]):
+            if lines := played(router):
+                sums += refused(player, router, lines)
+    print(f"{sums['lost']} routers lost, {sums['unchanged']} calls that changed nothing and {sums['without']} done "
+          f"without, in runs of {sums['routers']} routers of {scenarios} scenarios, {sums['other']} with another "
+          "outcome")
+    return not sums["other"]

@@ -1,14 +1,10 @@
-"""The packets that come to a router that holds much, and the states and events of torture/bench/events."""
-import sys
+"""The packets that come to a router that holds much, and the states and events of `torture/run events`."""
 from collections.abc import Callable, Iterable
 from dataclasses import dataclass
-from pathlib import Path
 
-TOP = Path(__file__).resolve().parent.parent.parent
-sys.path += [str(TOP / "tools"), str(TOP / "bindings" / "python" / "src")]
-from viqeshor.lab import packets  # noqa: E402
-from viqeshor.lab.addresses import dotted  # noqa: E402
-from viqeshor.lab.packets import Entry, GroupEntries, Record  # noqa: E402
+from viqeshor.lab import packets
+from viqeshor.lab.addresses import dotted
+from viqeshor.lab.packets import Entry, GroupEntries, Record
 
 # OWN_GROUP's RP is the router.
 FIRST_GROUP, OWN_GROUP, FIRST_SSM_GROUP = 0xE1010000, 0xEF010000, 0xE8010000

@@ -1,8 +1,7 @@
-#!/usr/bin/env python3
 """Compares a router behind a data plane with a router alone.
 
-    torture/plane [--runs N] [--seed N] [--events N] [--forget DUTY | --each] [--unproved | --from FOLDER | --archive
-    FILE]
+    torture/run plane [--runs N] [--seed N] [--events N] [--forget DUTY | --each] [--unproved | --from FOLDER |
+    --archive FILE]
 
 First each router of each stored scenario takes its events. Then come runs of random events (stress.happenings):
 Hellos, Join/Prunes, Asserts, reports, data on every interface, spoilt packets, Registers, routes and RP ranges that
@@ -13,31 +12,25 @@ both have to have answered and sent the same; now and then, and at the end, all 
 divergence is printed, with the events up to it; --seed N begins with that run. With --forget the plane neglects a duty
 (--duties lists them), so it has to diverge in one of the random runs; with --each every duty is tried so. The exit
 status is 0 where all came as it has to.
-
-It needs the kit and a C compiler (`CC`, or `cc`). The library is the proved one, or the one that is named, as for
-tools/library.
 """
 import argparse
 import ctypes
 import random
-import sys
 from collections.abc import Callable, Iterable, Iterator
 from dataclasses import dataclass
 from pathlib import Path
 from typing import TYPE_CHECKING, Any
 
-TOP = Path(__file__).resolve().parent.parent
-STORED = TOP / "crates" / "test_scenarios" / "data"
-sys.path[:0] = [str(TOP / "tools"), str(TOP / "bindings" / "python" / "src")]
-import viqeshor  # noqa: E402
-from pimtext import pimlab  # noqa: E402
-from viqeshor.lab import fed, story  # noqa: E402
-from pimtext.library import CC, ROOM, add_choice, beside, chosen, ran  # noqa: E402
-from stress.dataplane import DUTIES, CaughtUp, Plane, outcome  # noqa: E402
-from stress.happenings import Event, Happenings, events_of  # noqa: E402
+import viqeshor
+from pimtext.library import CC, ROOM, add_choice, beside, chosen, ran
+from stress.dataplane import DUTIES, CaughtUp, Plane, outcome
+from stress.happenings import Event, Happenings, events_of
+from stress.stored import made, routers
 
 if TYPE_CHECKING:
     from pimtext.library import Library
+
+REFUSING = Path(__file__).resolve().parent.parent / "refuse" / "plane.c"
 
 
 @dataclass(frozen=True)
@@ -56,11 +49,10 @@ class Divergence:
 
 def refusing(library: "Library") -> Path:
     """A shared library to which memory can be refused."""
-    made, wraps = ROOM / "libviqeshor_refusing.so", ["-Wl,--wrap=malloc", "-Wl,--wrap=realloc"]
+    built, wraps = ROOM / "libviqeshor_refusing.so", ["-Wl,--wrap=malloc", "-Wl,--wrap=realloc"]
     whole = ["-Wl,--whole-archive", library.archive, "-Wl,--no-whole-archive"]
-    ran([CC, "-shared", "-fPIC", "-O2", "-o", beside(made), TOP / "torture" / "refuse" / "plane.c", *wraps,
-         *whole])
-    return beside(made).replace(made)
+    ran([CC, "-shared", "-fPIC", "-O2", "-o", beside(built), REFUSING, *wraps, *whole])
+    return beside(built).replace(built)
 
 
 def tables(router: viqeshor.Router) -> list[str]:
@@ -74,15 +66,12 @@ class Pair:
     """A router alone, and one behind a plane."""
 
     def __init__(self, library: Path, given: tuple[Any, ...], tells: str = "keep", forgets: Iterable[str] = ()) -> None:
-        interfaces, ranges, routes, settings = given
         self.refuse = ctypes.CDLL(library).refuse_memory
-        self.alone, behind = (
-            viqeshor.Router(interfaces, ranges, routes, library=library, **settings) for _ in range(2)
-        )
+        self.alone, behind = (made(library, given) for _ in range(2))
         # A guard stands before what comes to the router, and not before what a plane forwards by itself.
         self.alone.set_guard(False)
         behind.set_guard(False)
-        self.plane = Plane(behind, [own for own, *_ in interfaces], tells, forgets)
+        self.plane = Plane(behind, [own for own, *_ in given[0]], tells, forgets)
 
     def end(self) -> None:
         self.alone.end()
@@ -163,25 +152,14 @@ def runs(
 def stored(library: Path) -> tuple[Divergence | None, int, int, int]:
     """The first divergence of the routers of the stored scenarios, or None; how many they are, their events, and what
     was decided."""
-    routers, events, decided = 0, 0, 0
-    for path in sorted(STORED.glob("*.toml")):
-        lines = path.with_suffix(".out").read_text().splitlines()
-        scene = pimlab.read(path) if lines and not path.with_suffix(".err").exists() else None
-        steps = list(story.played(scene, lines)[0]) if scene else []
-        for router in scene.routers if scene else ():
-            table = router.table
-            lists = [
-                list(fed.interfaces(table)),
-                list(fed.ranges(table.get("rps", []))),
-                list(fed.routes(table.get("routes", []))),
-            ]
-            pair = Pair(library, (*lists, fed.settings(table)))
-            mine = events_of(step for step in steps if step.router == router.name)
-            found, took = pair.play(f"{path.stem}, {router.name}", mine, lambda: False)
-            routers, events, decided = routers + 1, events + took, decided + pair.plane.by_itself
-            if found:
-                return found, routers, events, decided
-    return None, routers, events, decided
+    count, events, decided = 0, 0, 0
+    for router in routers():
+        pair = Pair(library, router.given())
+        found, took = pair.play(str(router), events_of(router.steps), lambda: False)
+        count, events, decided = count + 1, events + took, decided + pair.plane.by_itself
+        if found:
+            return found, count, events, decided
+    return None, count, events, decided
 
 
 def told(what: str, found: Divergence | None, events: int, decided: int) -> bool:
@@ -196,8 +174,8 @@ def told(what: str, found: Divergence | None, events: int, decided: int) -> bool
 
 
 def sound(library: Path, asked: argparse.Namespace) -> Iterator[bool]:
-    found, routers, events, decided = stored(library)
-    yield told(f"{routers} routers of the stored scenarios", found, events, decided)
+    found, count, events, decided = stored(library)
+    yield told(f"{count} routers of the stored scenarios", found, events, decided)
     found, count, events, decided = runs(library, asked)
     yield told(f"{count} runs", found, events, decided)
 
@@ -211,8 +189,7 @@ def forgetful(library: Path, asked: argparse.Namespace, duty: str, is_shown: boo
     return found is not None
 
 
-def main() -> None:
-    parser = argparse.ArgumentParser(description=__doc__, formatter_class=argparse.RawDescriptionHelpFormatter)
+def add_words(parser: argparse.ArgumentParser) -> None:
     parser.add_argument("--runs", type=int, default=1000, metavar="N")
     parser.add_argument("--seed", type=int, default=1, metavar="N")
     parser.add_argument("--events", type=int, default=120, metavar="N", help="of a run")
@@ -221,19 +198,14 @@ def main() -> None:
     what.add_argument("--each", action="store_true", help="try every duty")
     what.add_argument("--duties", action="store_true", help="list them")
     add_choice(parser)
-    asked = parser.parse_args()
+
+
+def is_right(asked: argparse.Namespace) -> bool:
     if asked.duties:
         print("\n".join(f"{duty}: {words}" for duty, words in DUTIES.items()))
-        return
+        return True
     library = refusing(chosen(asked)[0])
     if asked.forget or asked.each:
-        good = [
-            forgetful(library, asked, duty, not asked.each) for duty in ([asked.forget] if asked.forget else DUTIES)
-        ]
-    else:
-        good = list(sound(library, asked))
-    sys.exit(not all(good))
-
-
-if __name__ == "__main__":
-    main()
+        duties = [asked.forget] if asked.forget else DUTIES
+        return all([forgetful(library, asked, duty, not asked.each) for duty in duties])
+    return all(list(sound(library, asked)))

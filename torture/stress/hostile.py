@@ -1,11 +1,9 @@
-#!/usr/bin/env python3
-"""Writes scenarios with hostile bytes: crates/test_scenarios/data/hostile_NAME.toml, with the lines that they must
-print.
+"""Writes scenarios with hostile bytes, and the lines that they must print.
 
-    torture/hostile
+    torture/run hostile
 
-Each is a stored scenario with packets before some of its own that must change nothing; what comes after them must be
-as if they hadn't come:
+Each, crates/test_scenarios/data/hostile_NAME.toml, is a stored scenario with packets before some of its own that must
+change nothing; what comes after them must be as if they hadn't come:
 - the packet itself, spoilt: cut at each byte, or with one length or count raised by one; each as it is, with the IP
   header mended, and with the message's checksum mended too. It must be refused, by the first test of its reading that
   fails. A spoilt packet that is lawful still (a Hello cut between two options) is left out.
@@ -17,20 +15,17 @@ as if they hadn't come:
 Which test fails, the readings of pimtext say, and for which reason a packet is ignored, is said here: both by the
 formats and rules of RFC 791, RFC 7761 and RFC 3376, without the router's code.
 """
-import sys
 import tomllib
+from argparse import ArgumentParser, Namespace
 from collections.abc import Iterable, Iterator
-from pathlib import Path
 from typing import Any
 
-TOP = Path(__file__).resolve().parent.parent
-sys.path.insert(0, str(TOP / "bindings" / "python" / "src"))
-from viqeshor.lab.packets import (  # noqa: E402
+from stress.stored import STORED
+from viqeshor.lab.packets import (
     ASSERT, HELLO, IGMP, JOIN_PRUNE, MOST_IN_A_FRAME, MOST_IN_A_UNICAST, PIM, REGISTER, REGISTER_STOP, octets, refusal,
     sum16, with_header_sum, with_number, word,
 )
 
-DATA = Path(__file__).resolve().parent.parent / "crates" / "test_scenarios" / "data"
 # The scenarios, and the moves whose messages are spoilt.
 SPOILT = {
     "one_join": (4, 5),
@@ -203,8 +198,8 @@ def without_effect(name: str, place: int, moves: list[dict[str, Any]], own: list
 
 def spoilt_scenario(name: str, moves: tuple[int, ...]) -> tuple[str, str]:
     """The text of the scenario with packets that change nothing, and what it must print."""
-    text = (DATA / f"{name}.toml").read_text()
-    lines = (DATA / f"{name}.out").read_text().splitlines()
+    text = (STORED / f"{name}.toml").read_text()
+    lines = (STORED / f"{name}.out").read_text().splitlines()
     scenario = tomllib.loads(text)
     routers = text[text.index("[[router]]"):text.index("[[move]]")]
     routers = "\n".join(line for line in routers.splitlines() if not line.startswith("#")).rstrip()
@@ -220,16 +215,17 @@ def spoilt_scenario(name: str, moves: tuple[int, ...]) -> tuple[str, str]:
         said.append(move_line(move))
         while lines and (not lines[0].startswith("move ") or lines[0].split()[1] == str(place)):
             printed.append(lines.pop(0).replace(f"move {place} ", f"move {number} ", 1))
-    head = f"# {name}, with packets before some of its own that change nothing: written by torture/hostile."
+    head = f"# {name}, with packets before some of its own that change nothing: written by `torture/run hostile`."
     return "\n".join([head, "move = [", *said, "]", "", routers, ""]), "\n".join(printed + lines + [""])
 
 
-def main() -> None:
+def add_words(parser: ArgumentParser) -> None:
+    """It has none."""
+
+
+def is_right(asked: Namespace) -> bool:
     for name, moves in SPOILT.items():
         text, printed = spoilt_scenario(name, moves)
-        (DATA / f"hostile_{name}.toml").write_text(text)
-        (DATA / f"hostile_{name}.out").write_text(printed)
-
-
-if __name__ == "__main__":
-    main()
+        (STORED / f"hostile_{name}.toml").write_text(text)
+        (STORED / f"hostile_{name}.out").write_text(printed)
+    return True

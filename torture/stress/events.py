@@ -1,24 +1,21 @@
-#!/usr/bin/env python3
 """What each kind of event costs the router, and what a fact takes of memory: one table.
 
-    torture/bench/events [KIND ..] [--whole] [--facts N ..] [--timed N] [--interfaces N OTHER] [--write]
+    torture/run events [KIND ..] [--whole] [--facts N ..] [--timed N] [--interfaces N OTHER] [--write]
                        [--unproved | --from FOLDER | --archive FILE]
 
-A router with N facts takes some events of a KIND, or of each (torture/bench/loaded.py), in a program with the library
-(events.c); each has to be answered VIQ_DONE. A row is a kind. It has the instructions of one event's call, such as
-`viq_frame`, for each N (100 and 1,000 if left out), counted by callgrind (Debian's valgrind) from the first event on;
-the exponent of their growth from the first N to the last; by how much they differ with the other number of interfaces
-(4 and 120 if left out; all are up), at the greatest N up to 1,000; milliseconds of the processor at the N of --timed,
-or at the last one, the lesser of two runs; and the bytes that the event is given and sends then. Then a row for each
-kind of fact: bytes that the router has asked for and not given back, for one fact.
+A router with N facts takes some events of a KIND, or of each (torture/stress/loaded.py), in a program with the library
+(torture/bench/events.c); each has to be answered VIQ_DONE. A row is a kind. It has the instructions of one event's
+call, such as `viq_frame`, for each N (100 and 1,000 if left out), counted by callgrind (Debian's valgrind) from the
+first event on; the exponent of their growth from the first N to the last; by how much they differ with the other number
+of interfaces (4 and 120 if left out; all are up), at the greatest N up to 1,000; milliseconds of the processor at the N
+of --timed, or at the last one, the lesser of two runs; and the bytes that the event is given and sends then. Then a row
+for each kind of fact: bytes that the router has asked for and not given back, for one fact.
 
 Targets: as many instructions, to a tenth, with either number of interfaces; at most 20 ms, or what 10 bytes a
 microsecond take. What misses one is bold, and listed below the table. A kind that would take above 20,000,000,000
 instructions, by the growth so far, is left out. With --whole the numbers are 100, 1,000 and 10,000, and milliseconds
 are those at 60,000, unless other ones are given. The last line says how many seconds of the processor all took. With
---write the table goes into docs/BENCH.md. The library is the
-proved one, which is proved first unless it is, the unproved one, that of a folder with builds that were brought along,
-or FILE. It wants the kit, a C compiler and valgrind.
+--write the table goes into docs/BENCH.md. It wants valgrind.
 """
 from __future__ import annotations
 
@@ -34,10 +31,11 @@ from dataclasses import dataclass, field
 from functools import cache
 from pathlib import Path
 
-from loaded import FACTS, KINDS, TOLD, TOP, Kind, Lines, empty
 from pimtext.library import CC, add_choice, chosen
+from stress.loaded import FACTS, KINDS, TOLD, Kind, Lines, empty
 
-HERE, PAGE = Path(__file__).resolve().parent, TOP / "docs" / "BENCH.md"
+TOP = Path(__file__).resolve().parent.parent.parent
+BENCH, PAGE = TOP / "torture" / "bench", TOP / "docs" / "BENCH.md"
 MARKED = re.compile(r"(?s)(<!-- costs -->\n).*?(\n<!-- end -->)")
 MOST, MOST_MS, BYTES_A_MS, MOST_PERCENT, RUNS, MANY = 20_000_000_000, 20, 10_000, 10, 2, 1000
 SOME, WHOLE, WHOLE_TIMED = [100, 1000], [100, 1000, 10_000], 60_000
@@ -118,7 +116,7 @@ class Program:
     def held(self, state: Lines, count: int) -> int:
         """The bytes that are held in a state, under the shim."""
         shim, said = self.room / "shim.so", self.room / "said"
-        subprocess.run([CC, "-O2", "-Wall", "-shared", "-fPIC", "-o", shim, HERE / "memory.c"], check=True)
+        subprocess.run([CC, "-O2", "-Wall", "-shared", "-fPIC", "-o", shim, BENCH / "memory.c"], check=True)
         names = subprocess.run(["nm", self.binary], check=True, capture_output=True, text=True).stdout
         found = re.findall(r"^(\S+) [Tt] (\S+)$", names, re.M)
         places = {REPLACED[name]: place for place, name in found if name in REPLACED}
@@ -170,8 +168,7 @@ def memory(program: Program, sizes: list[int]) -> list[str]:
     return rows
 
 
-def main() -> None:
-    parser = argparse.ArgumentParser(description=__doc__, formatter_class=argparse.RawDescriptionHelpFormatter)
+def add_words(parser: argparse.ArgumentParser) -> None:
     parser.add_argument("kinds", nargs="*", metavar="KIND", help=", ".join(kind.name for kind in KINDS))
     parser.add_argument("--whole", action="store_true")
     parser.add_argument("--facts", type=int, nargs="+", metavar="N")
@@ -179,13 +176,15 @@ def main() -> None:
     parser.add_argument("--interfaces", type=int, nargs=2, default=[4, 120])
     parser.add_argument("--write", action="store_true")
     add_choice(parser)
-    given = parser.parse_args()
+
+
+def is_right(given: argparse.Namespace) -> bool:
     if unknown := set(given.kinds) - {kind.name for kind in KINDS}:
-        parser.error(f"there is no kind {', '.join(sorted(unknown))}")
+        sys.exit(f"torture/run events: there is no kind {', '.join(sorted(unknown))}")
     library, build = chosen(given)
     print(f"archive: {build}")
     with tempfile.TemporaryDirectory() as room:
-        program = Program(library.program(HERE / "events.c"), Path(room))
+        program = Program(library.program(BENCH / "events.c"), Path(room))
         kinds = [kind for kind in KINDS if not given.kinds or kind.name in given.kinds]
         sizes = given.facts or (WHOLE if given.whole else SOME)
         timed = given.timed or (WHOLE_TIMED if given.whole else sizes[-1])
@@ -194,7 +193,4 @@ def main() -> None:
     print(f"\nseconds of the processor: {sum(it.ru_utime + it.ru_stime for it in took):,.0f}")
     if given.write:
         PAGE.write_text(MARKED.sub(lambda found: found[1] + "\n".join(rows) + found[2], PAGE.read_text()))
-
-
-if __name__ == "__main__":
-    main()
+    return True

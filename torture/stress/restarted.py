@@ -1,7 +1,6 @@
-#!/usr/bin/env python3
 """Saves and restores a router after each event, and looks at what differs then.
 
-    torture/restarted [--runs N] [--seed N] [--events N] [--spoilt N] [--facts N] [--unproved | --from FOLDER |
+    torture/run restarted [--runs N] [--seed N] [--events N] [--spoilt N] [--facts N] [--unproved | --from FOLDER |
     --archive FILE] [SCENARIO.toml ..]
 
 Each router of each stored scenario, or of those that are named, takes its events, and then the routers of N runs of
@@ -17,38 +16,27 @@ are exchanged. Each time the bytes have to be refused by the number by which pim
 them they have to be refused by 66, 67, 68, 71 or 72, or to be those that their router saves, which then has to let
 time pass.
 
-Last comes what saving and restoring costs, of a router with N facts. Each part prints a line; the exit status is 0
-where all came as it has to.
-
-It needs the kit and a C compiler (`CC`, or `cc`). The library is the proved one, or the one that is named, as for
-tools/library.
+Last comes what saving and restoring costs, of a router with N facts. Each part prints a line.
 """
 from __future__ import annotations
 
 import argparse
 import random
-import sys
 import time
 from collections.abc import Iterable, Iterator
 from dataclasses import dataclass, field
 from pathlib import Path
-from typing import TYPE_CHECKING, Any
+from typing import Any
 
-TOP = Path(__file__).resolve().parent.parent
-STORED = TOP / "crates" / "test_scenarios" / "data"
-sys.path[:0] = [str(TOP / "tools"), str(TOP / "bindings" / "python" / "src")]
-import viqeshor  # noqa: E402
-from pimtext import pimlab, saved as by_document  # noqa: E402
-from viqeshor.lab import fed, story  # noqa: E402
-from viqeshor.lab.facts import REFUSED_BYTES, REFUSED_STATES  # noqa: E402
-from pimtext.library import add_choice, chosen  # noqa: E402
-from stress.dataplane import outcome  # noqa: E402
-from stress.happenings import Event, Happenings, events_of  # noqa: E402
-from viqeshor import Answer, Router, hosts  # noqa: E402
-
-if TYPE_CHECKING:
-    from collections.abc import Callable
-
+import viqeshor
+from pimtext import saved as by_document
+from pimtext.library import add_choice, chosen
+from stress.dataplane import outcome
+from stress.happenings import Event, Happenings, events_of
+from stress.stored import made, routers
+from viqeshor import Answer, Router, hosts
+from viqeshor.lab import fed
+from viqeshor.lab.facts import REFUSED_BYTES, REFUSED_STATES
 
 
 @dataclass
@@ -112,10 +100,12 @@ def restarted(library: Path, router: Router, table: dict[str, Any]) -> Router:
     return other
 
 
-def play(made: Callable[[], Router], library: Path, table: dict[str, Any], events: Iterable[Event],
+def play(library: Path, given: tuple[Any, ...], table: dict[str, Any], events: Iterable[Event],
          came: Counted) -> str | None:
     """Plays a router, of a scenario's table if it is of one; the first difference as a text, or None."""
-    alone, other = made(), made()
+    alone, other = (made(library, given) for _ in range(2))
+    for router in (alone, other):
+        speak(router, table)
     try:
         for number, event in enumerate(events, 1):
             came.events += 1
@@ -141,28 +131,13 @@ def play(made: Callable[[], Router], library: Path, table: dict[str, Any], event
 # ---- runs
 
 
-def made(library: Path, table: dict[str, Any]) -> Router:
-    """The router of a scenario's table."""
-    lists = [fed.interfaces(table), fed.ranges(table.get("rps", [])), fed.routes(table.get("routes", []))]
-    router = Router(*lists, library=library, **fed.settings(table))
-    speak(router, table)
-    return router
-
-
-def stored(library: Path, paths: Iterable[Path]) -> Counted:
+def stored(library: Path, paths: Iterable[Path] = ()) -> Counted:
     came = Counted()
-    for path in paths:
-        lines = path.with_suffix(".out").read_text().splitlines()
-        if not lines or path.with_suffix(".err").exists():
-            continue
-        scene = pimlab.read(path)
-        steps = list(story.played(scene, lines)[0])
-        for router in scene.routers:
-            table, mine = router.table, events_of(step for step in steps if step.router == router.name)
-            found = play(lambda: made(library, table), library, table, mine, came)
-            came.routers += 1
-            if found:
-                came.wrong.append(f"{path.stem}, {router.name}: {found}")
+    for router in routers(paths):
+        found = play(library, router.given(), router.table, events_of(router.steps), came)
+        came.routers += 1
+        if found:
+            came.wrong.append(f"{router}: {found}")
     return came
 
 
@@ -170,8 +145,8 @@ def random_runs(library: Path, asked: argparse.Namespace) -> Counted:
     came = Counted()
     for seed in range(asked.seed, asked.seed + asked.runs):
         told = Happenings(seed)
-        lists = (told.interfaces, told.ranges, told.routes)
-        clock = Router(*lists, library=library, **told.settings)
+        given = told.interfaces, told.ranges, told.routes, told.settings
+        clock = made(library, given)
 
         def events() -> Iterator[Event]:
             """The next event is one of the router alone, whose time the others have."""
@@ -180,7 +155,7 @@ def random_runs(library: Path, asked: argparse.Namespace) -> Counted:
                 outcome(clock, event.call, *event.values, draw=event.draw)
                 yield event
 
-        found = play(lambda: Router(*lists, library=library, **told.settings), library, {"guard": "on"}, events(), came)
+        found = play(library, given, {"guard": "on"}, events(), came)
         clock.end()
         came.routers += 1
         if found:
@@ -258,7 +233,7 @@ def taken(library: Path, given: bytes) -> int:
 
 
 def spoil(library: Path, all_saved: list[bytes], asked: argparse.Namespace) -> bool:
-    draws, answers, wrong = random.Random(asked.seed), dict.fromkeys([0, *REFUSED_BYTES, *REFUSED_STATES], 0), 0
+    draws, answers, wrong = random.Random(asked.seed), dict.fromkeys(sorted([0, *REFUSED_BYTES, *REFUSED_STATES]), 0), 0
     for saved in sorted(set(all_saved)):
         for given in spoilt(saved, asked.spoilt, draws):
             try:
@@ -277,7 +252,7 @@ def spoil(library: Path, all_saved: list[bytes], asked: argparse.Namespace) -> b
 def full(library: Path, facts: int) -> Router:
     """A router with as many facts: half of them groups that hosts want of a source, half these sources."""
     links, ways = [("10.0.0.1", 24), ("10.0.1.1", 24)], [("0.0.0.0/0", "10.0.0.2", 0, 110, 20)]
-    router = Router(links, [], ways, limit=max(facts, 8), library=library)
+    router = made(library, (links, [], ways, {"limit": max(facts, 8)}))
     router.up(0)
     router.up(1)
     for number in range(facts // 2):
@@ -305,8 +280,7 @@ def costs(library: Path, facts: int) -> None:
     router.end()
 
 
-def main() -> None:
-    parser = argparse.ArgumentParser(description=__doc__, formatter_class=argparse.RawDescriptionHelpFormatter)
+def add_words(parser: argparse.ArgumentParser) -> None:
     parser.add_argument("--runs", type=int, default=100, metavar="N")
     parser.add_argument("--seed", type=int, default=1, metavar="N")
     parser.add_argument("--events", type=int, default=120, metavar="N", help="of a random run")
@@ -314,16 +288,14 @@ def main() -> None:
     parser.add_argument("--facts", type=int, default=40_000, metavar="N")
     add_choice(parser)
     parser.add_argument("files", nargs="*", type=Path, metavar="SCENARIO.toml")
-    asked = parser.parse_args()
+
+
+def is_right(asked: argparse.Namespace) -> bool:
     library = chosen(asked)[0].shared()
-    scenarios = stored(library, asked.files or sorted(STORED.glob("*.toml")))
+    scenarios = stored(library, asked.files)
     good = [scenarios.print("stored scenarios")]
     runs = random_runs(library, asked)
     good.append(runs.print("random runs"))
     good.append(spoil(library, scenarios.saved + runs.saved, asked))
     costs(library, asked.facts)
-    sys.exit(not all(good))
-
-
-if __name__ == "__main__":
-    main()
+    return all(good)
