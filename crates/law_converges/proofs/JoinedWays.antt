@@ -4,7 +4,7 @@ use Rattle.pim_types.{specs.declared.{fact.JoinTimerRow.JoinTimerRow}}
 use Rattle.pim_model.{specs.{Network.{Move, Network, Station, moved, station_at}, State.{State, iface_count}, Step.step, Tables.{has_row, row_at}}}
 use Rattle.law_events.{specs.Rest.IsAtRest}
 use Rattle.law_streams.{specs.{InTimeJoins.{Always, AreInTime, AreThere, IsBy, IsHeld, IsHeldAfter, IsJoin, IsReady, IsUnlost, Join, Pair, Source, Star, Wants, is_lost_at, is_wanted, join_key, time_at}, Joins.Hears, Timed.AreTimed}, proofs.{InTimeTimers.{EndsBy, is_after, timer_is}, Pairs.{HasTimer, Steps, joins_come_to_be_held, one_router, ready_then, same_station}, Taken.{listed_source, listed_star, wanted_source, wanted_star}}}
-use Rattle.law_converges.{specs.{JoinedWays.{AreHeldPast, AreHops, AreTogether, IsDue, IsNear, WayComesToBeJoined, a_hop}, Settles.{ArePast, HoldsPast}}, proofs.{JoinClock.{Joins, Near, step_later, step_near}, LinkJoins.{first_of, later, too_late}}}
+use Rattle.law_converges.{specs.{JoinedWays.{AreHeldPast, AreHops, AreTogether, IsDue, IsNear, WayComesToBeJoined, a_hop}, Past.{ArePast, HoldsPast}}, proofs.{JoinClock.{Joins, Near, step_later, step_near}, LinkJoins.{first_of, later, too_late}}}
 
 -- ---- a router's Join timer
 

@@ -1,9 +1,9 @@
 -- The premises, computed by their tests, and so the next hops of the way hold what is joined at the end.
-use Rattle.std.{proofs.{Common.{◌≡◌, ◌+◌, [], ◌∷◌, Bool, true, nat_le, refl, lit<}}, specs.List.list_all}
-use Rattle.pim_model.{specs.Network.{Network, Station, network_ran, station_at}}
-use Rattle.law_streams.{specs.{InTimeJoins.{Always, IsHeld, IsReady, Wants, time_at}, Joins.join_packet}}
+use Rattle.std.{proofs.{Common.{◌≡◌, ◌+◌, [], ◌∷◌, true, refl, lit<}}}
+use Rattle.pim_model.{specs.Network.{network_ran, station_at}}
+use Rattle.law_streams.{specs.{InTimeJoins.{Always, IsHeld, IsReady, Wants}, Joins.join_packet}}
 use Rattle.pim_runs.{specs.{InTime.{joined, pair, started}, ServedChain.{asked_group, first, second, third}, WayInTime.upper_pair}, proofs.{InTime.{accepted_second, its_group}, OnLiterals.machine_on_literals}}
-use Rattle.law_converges.{specs.{JoinedWays.{AreHeldPast, AreHops, AreTogether, IsDue, a_hop}, JoinedWaysRun.{ChainComesInTime, ChainComesToBeJoined, first_asks, joining, lag, late, second_waits, third_waits, unjoined, way_bound}}, proofs.{JoinTests.{first_due, first_test, first_wants, hop_test, is_hop_so}, JoinedWays.way_comes_to_be_joined, LinkDrRun.accepted_first, LinkJoinsRun.joins_over, SettlesRun.{accepted_third, each_passes, ends_past, past_so, past_test}, Tested.{always_so, le_so, ready_by, run_test}}}
+use Rattle.law_converges.{specs.{JoinedWays.{AreHeldPast, AreHops, AreTogether, IsDue, a_hop}, JoinedWaysRun.{ChainComesInTime, ChainComesToBeJoined, first_asks, joining, lag, late, second_waits, third_waits, unjoined, way_bound}}, proofs.{JoinTests.{first_due, first_test, first_wants, hop_test, is_hop_so}, JoinedWays.way_comes_to_be_joined, LinkDrRun.accepted_first, LinkJoinsRun.joins_over, SettlesRun.{accepted_third, ends_past, past_so, past_test}, Tested.{all_together, ready_by, together_test}}}
 
 first_ready : IsReady 0 unjoined
 unfolding station_at
@@ -31,20 +31,9 @@ first_passes : first_test late way_bound started (joins_over pair) unjoined join
 unfolding machine_on_literals join_packet
 first_passes = refl
 
-abbrev together_at : Network → Bool
-together_at n =
-    list_all (λ (a : Station). list_all (λ (b : Station). nat_le (time_at started 0 a) (time_at started 0 b + lag)) n.stations) n.stations
-
-together_passes : run_test together_at (λ n m next ms. true) unjoined joining ≡ true
+together_passes : together_test lag started (λ q r. refl) unjoined joining ≡ true
 unfolding machine_on_literals join_packet
 together_passes = refl
-
-together_so : (n : Network) → together_at n ≡ true → AreTogether lag started n
-unfolding station_at
-together_so n e q r a b at_q at_r =
-    le_so _ _ (each_passes (λ (b : Station). nat_le (time_at started 0 a) (time_at started 0 b + lag)) n.stations
-    (each_passes (λ (a : Station). list_all (λ (b : Station). nat_le (time_at started 0 a) (time_at started 0 b + lag)) n.stations)
-    n.stations e q a at_q) r b at_r)
 
 -- ---- all together
 
@@ -56,7 +45,7 @@ hops = (
 )
 
 together : Always (AreTogether lag started) unjoined joining
-together = always_so together_at (λ n m next ms. true) (AreTogether lag started) together_so joining unjoined together_passes
+together = all_together lag started (λ q r. refl) unjoined joining together_passes
 
 wants : Always (Wants joined asked_group 0) unjoined joining
 wants = first_wants late way_bound started (joins_over pair) unjoined joining first_passes

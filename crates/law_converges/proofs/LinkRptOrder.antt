@@ -70,11 +70,11 @@ limit_so present start sent within effective interval e g h = grind (arith, e, g
 
 -- ---- frames
 
-record Got (xs : List Sent) (k : ℕ) : Type 0 where
-  frame : Sent
-  is : slice_get xs k ≡ Some frame
+pub record Got (xs : List Sent) (k : ℕ) : Type 0 where
+  pub frame : Sent
+  pub is : slice_get xs k ≡ Some frame
 
-got_below : (xs : List Sent) (k : ℕ) → k < length xs → Got xs k
+pub got_below : (xs : List Sent) (k : ℕ) → k < length xs → Got xs k
 got_below [] k lt = absurd (omega (arith, lt))
 got_below (y ∷ xs) zero lt = record { frame = y; is = refl }
 got_below (y ∷ xs) (suc k) lt = let later : Got xs k = got_below xs k (omega (arith, lt)) in record { frame = later.frame; is = later.is }
@@ -89,7 +89,7 @@ unfolding frame_at
 none_behind n zero f lt got = omega (arith, lt)
 none_behind n (suc k) f lt got = beyond n.frames k f (omega (arith, lt)) got
 
-there_is : (n : Network) (k : ℕ) (f : Sent) → frame_at n k ≡ Some f → k ≤ length n.frames
+pub there_is : (n : Network) (k : ℕ) (f : Sent) → frame_at n k ≡ Some f → k ≤ length n.frames
 there_is n k f is = go (nat_lt (length n.frames) k) refl
   where
     go : (b : Bool) → nat_lt (length n.frames) k ≡ b → k ≤ length n.frames
@@ -100,7 +100,7 @@ same_frame : {o : Option Sent} {a b : Sent} → o ≡ Some a → o ≡ Some b �
 same_frame e f = grind arith
 
 -- a frame of before a move
-there_before : (n : Network) (m : Move) (k : ℕ) (f : Sent) → k ≤ length n.frames → frame_at (moved n m).1 k ≡ Some f → frame_at n k ≡ Some f
+pub there_before : (n : Network) (m : Move) (k : ℕ) (f : Sent) → k ≤ length n.frames → frame_at (moved n m).1 k ≡ Some f → frame_at n k ≡ Some f
 unfolding frame_at
 there_before n m zero f le got = got
 there_before n m (suc k) f le got =

@@ -5,7 +5,7 @@ use Rattle.pim_types.{specs.{Keys.{source_key, star_key}, declared.{config.{Ifac
 use Rattle.pim_model.{specs.{declared.accepted.Accepted.Accepted, Cause.{copies_in, done_as}, Forwarding.{Forwarded, forwarded, list_chosen, source_here, source_joined, spt_updated, stray, watched}, Network.{Move, Network, Station, moved, station_at}, Registers.{settle_register, with_keepalive}, Asserts.with_spt_bit, Sets.{assert_source, inherited_olist, inherited_olist_rpt, is_beaten, is_better, is_loser, lost_assert, lost_assert_rpt, lost_assert_star, spt_bit, spt_metric, tunnel}, State.{Addressing, State}, Step.{Answered, change, done, outcome_of, packet_forwarded}, Tables.{Table, row_at}, Unicast.{is_rpf_interface, is_rpf_interface_rp, route, rp_of, rp_route, rpf_interface, rpf_interface_rp}, Writing.on_link}}
 use Rattle.law_settled.{proofs.ListLaws.{by_cond, each_map, each_more}}
 use Rattle.law_streams.{specs.{Adjacent.Adjacent, Copies.{copies_at, happens}, InTimeJoins.{Always, IsBy}, Served.renewed}, proofs.{Leaves.taken_is_done, Links.{each_contained, on_each}, Made.{Made, forwarded_configured, packet_made, step_taken}, Pairs.same_station}}
-use Rattle.law_converges.{specs.{LinkAsserts.lost_to, LinkLosers.{HasLostAfter, HasLostTo, winner_of}, OneSender.{AtMostOneComesToSend, AtMostOneSends, IsOffTree, LoserSendsNone, SendsNone, SendsNoneAfter, SendsNoneAt, SendsNoneNext, is_silenced}}, proofs.LinkLosers.{loser_comes_to_stay, loser_stays_loser}}
+use Rattle.law_converges.{specs.{LinkAsserts.lost_to, LinkLosers.{HasLostAfter, HasLostTo, winner_of}, OneSender.{AtMostOneComesToSend, AtMostOneSends, IsOffTree, IsSilent, IsSilentAfter, LoserSendsNone, is_silenced}}, proofs.{LinkJoins.first_of, LinkLosers.{loser_comes_to_stay, loser_stays_loser}}}
 
 -- ---- no copy on an interface that isn't on the list
 
@@ -210,27 +210,23 @@ module _ (g src : ℕ) (metric : AssertMetric) (c : Adjacent) where
       (λ some. subst (λ (z : Station). is_rpf_interface z.state src c.down ≡ false) here (off.source some))
       (λ some. subst (λ (z : Station). is_better (winner_of g src metric c) (spt_metric z.state src c.down) ≡ true) here (off.beaten some))
 
-  sends_none : (n : Network) (m : Move) → HasLostTo g src metric c n → IsOffTree g src metric c n → SendsNoneAt g src c n m
-  sends_none n m lost off e st i p text ev at was about has =
-      loser_sends_none st.state e i p g src c.down text was about (silenced n lost off st at) has
+  silent : (n : Network) → HasLostTo g src metric c n → IsOffTree g src metric c n → IsSilent g src c n
+  silent n lost off e st i p text at was about has = loser_sends_none st.state e i p g src c.down text was about (silenced n lost off st at) has
 
-  throughout : (ms : List Move) (n : Network) → Always (HasLostTo g src metric c) n ms → Always (IsOffTree g src metric c) n ms → SendsNone g src c n ms
-  throughout [] n lost off = tt
-  throughout (m ∷ ms) n lost off = (sends_none n m lost.0 off.0, throughout ms (moved n m).1 lost.1 off.1)
-
-  next_none : (ms : List Move) (n : Network) → HasLostTo g src metric c n → Always (IsOffTree g src metric c) n ms → SendsNoneNext g src c n ms
-  next_none [] n lost off = tt
-  next_none (m ∷ ms) n lost off = sends_none n m lost off.0
+  throughout : (ms : List Move) (n : Network) → Always (HasLostTo g src metric c) n ms → Always (IsOffTree g src metric c) n ms
+      → Always (IsSilent g src c) n ms
+  throughout [] n lost off = silent n lost off
+  throughout (m ∷ ms) n lost off = (silent n lost.0 off.0, throughout ms (moved n m).1 lost.1 off.1)
 
   after_so : (started : ℕ → ℕ) (bound : ℕ) (ms : List Move) (n : Network) → HasLostAfter g src metric started c bound n ms
-      → Always (IsOffTree g src metric c) n ms → SendsNoneAfter g src started c bound n ms
+      → Always (IsOffTree g src metric c) n ms → IsSilentAfter g src started c bound n ms
   after_so started bound [] n lost off = tt
   after_so started bound (m ∷ ms) n lost off = (go lost.0, after_so started bound ms (moved n m).1 lost.1 off.1)
     where
       go : IsBy started c.upper bound (moved n m).1 ⊎ HasLostTo g src metric c (moved n m).1
-          → IsBy started c.upper bound (moved n m).1 ⊎ SendsNoneNext g src c (moved n m).1 ms
+          → IsBy started c.upper bound (moved n m).1 ⊎ IsSilent g src c (moved n m).1
       go (inl by) = inl by
-      go (inr h) = inr (next_none ms (moved n m).1 h off.1)
+      go (inr h) = inr (silent (moved n m).1 h (first_of (IsOffTree g src metric c) (moved n m).1 ms off.1))
 
 pub at_most_one_sends : AtMostOneSends
 at_most_one_sends g src metric d bound started c n ms few f wins loses off =

@@ -1,9 +1,9 @@
 -- The premises, computed by their tests.
-use Rattle.std.{proofs.{Common.{◌≡◌, ℕ, List, [], ◌∷◌, Bool, true, nat_lt, Some, Ok, refl, subst, lit<}}, specs.{Cmp.{first_so, second_so}, List.{list_all}, Prelude.{slice_get, zero, suc, ◌&&◌}}}
+use Rattle.std.{proofs.{Common.{◌≡◌, ℕ, List, [], ◌∷◌, Bool, true, nat_lt, Ok, refl, lit≤, lit<}}, specs.{Cmp.{first_so, second_so}, List.{list_all}, Prelude.{◌&&◌}}}
 use Rattle.pim_model.{specs.{Limits.config_test, Network.{Move, Network, Station, moved, network_ran, station_at}}}
 use Rattle.law_streams.{specs.{InTimeJoins.{IsReady, time_at}, Joins.join_packet}}
 use Rattle.pim_runs.{specs.{InTime.started, ServedChain.{asked_group, first, second, third}}, proofs.{InTime.{accepted_second, its_group}, OnLiterals.machine_on_literals}}
-use Rattle.law_converges.{specs.{LinkDr.{IsOne, Member, between}, LinkMembers.AnswersInTime, Settles.{ArePast, HasSettled, HoldsPast, Link, LinkIsQuiet, routers}, SettlesRun.{TwoLansAreQuiet, TwoLansSettle, first_before, joins_rp, late, lower_lan, one, second_before, settled_bound, settling, third_before, three, two, two_above, two_lans, unsettled, upper_lan}}, proofs.{HelloTests.{both_of, meet_so, meet_test}, JoinTests.{joining_so, joining_test}, LinkDrRun.accepted_first, QueryTests.{ask_so, ask_test, member_so, member_test}, Settles.{network_settles}, Tested.{lt_so, ready_by}}}
+use Rattle.law_converges.{specs.{LinkDr.{IsOne, Member, between}, LinkMembers.AnswersInTime, Past.{ArePast, HoldsPast}, Settles.{HasSettled, Link, LinkIsQuiet, WayIsQuiet, routers}, SettlesRun.{TwoLansAreQuiet, TwoLansSettle, first_before, joins_rp, lag, late, lower_lan, one, rp_way, second_before, settled_bound, settling, third_before, three, two, two_above, two_lans, unsettled, upper_lan}}, proofs.{HelloTests.{both_of, meet_so, meet_test}, JoinTests.{first_due, first_test, first_wants, hop_test, is_hop_so, joining_so, joining_test}, LinkDrRun.accepted_first, QueryTests.{ask_so, ask_test, member_so, member_test}, Settles.{network_settles}, Tested.{all_together, each_passes, lt_so, ready_by, together_test}}}
 
 -- ---- ready
 
@@ -58,6 +58,18 @@ join_passes : joining_test late settled_bound started joins_rp unsettled settlin
 unfolding machine_on_literals join_packet
 join_passes = refl
 
+way_passes : hop_test late settled_bound started joins_rp unsettled settling ≡ true
+unfolding machine_on_literals join_packet
+way_passes = refl
+
+first_passes : first_test late settled_bound started joins_rp unsettled settling ≡ true
+unfolding machine_on_literals join_packet
+first_passes = refl
+
+together_passes : together_test lag started (λ q r. refl) unsettled settling ≡ true
+unfolding machine_on_literals join_packet
+together_passes = refl
+
 -- ---- all together
 
 answers_so : (l : Link) (y : Member) → IsReady (l.first).router unsettled → IsReady y.router unsettled → answers_test l y ≡ true
@@ -98,11 +110,25 @@ upper_quiet = record {
   );
 }
 
+way_quiet : WayIsQuiet late lag settled_bound started unsettled settling rp_way
+way_quiet = record {
+  addresses = its_group;
+  hops = (refl, is_hop_so late settled_bound started joins_rp unsettled settling second_ready third_ready way_passes, tt);
+  wants = first_wants late settled_bound started joins_rp unsettled settling first_passes;
+  begin = settled_bound;
+  due = first_due late settled_bound started joins_rp unsettled settling first_passes;
+  by = lit≤ tt;
+}
+
 pub two_lans_are_quiet : TwoLansAreQuiet
 two_lans_are_quiet = record {
   few = lit< tt;
+  together = all_together lag started (λ q r. refl) unsettled settling together_passes;
   links = (lower_quiet, (upper_quiet, tt));
   joinings = (joining_so late settled_bound started joins_rp unsettled settling its_group second_ready third_ready join_passes, tt);
+  ways = (way_quiet, tt);
+  contests = tt;
+  wires = tt;
 }
 
 -- ---- at the end
@@ -112,15 +138,6 @@ pub ends_past : (bound : ℕ) (P : Network → Type 0) (m : Move) (ms : List Mov
 unfolding network_ran
 ends_past bound P m [] n f past = f.0 past
 ends_past bound P m (k ∷ ms) n f past = ends_past bound P k ms (moved n m).1 f.1 past
-
-pub each_passes : (p : Station → Bool) (sts : List Station) → list_all p sts ≡ true → (r : ℕ) (st : Station) → slice_get sts r ≡ Some st
-    → p st ≡ true
-each_passes p [] e r st at = cc at
-each_passes p (x ∷ xs) e zero st at = subst (λ y. p y ≡ true) (same at) (first_so _ _ e)
-  where
-    same : Some x ≡ Some st → x ≡ st
-    same f = cc f
-each_passes p (x ∷ xs) e (suc r) st at = each_passes p xs (second_so (p x) _ e) r st at
 
 -- the time at each station is past a bound
 abbrev pub past_test : ℕ → Network → Bool
@@ -137,5 +154,5 @@ end_is_past = refl
 pub two_lans_settle : TwoLansSettle
 two_lans_settle =
     ends_past settled_bound (HasSettled two_lans) _ _ unsettled
-    (network_settles late settled_bound started two_lans unsettled settling two_lans_are_quiet)
+    (network_settles late lag settled_bound started two_lans unsettled settling two_lans_are_quiet)
     (past_so settled_bound (network_ran unsettled settling).1 end_is_past)

@@ -1,9 +1,10 @@
 -- Tests of a network and of moves, by which the premises of a law are computed.
-use Rattle.std.{proofs.{Common.{◌≡◌, ℕ, zero, suc, ◌+◌, ◌<◌, ◌≤◌, ◌==◌, nat_le, nat_lt, not, ◌&&◌, ◌||◌, Bool, true, false, List, [], ◌∷◌, drop, length, Option, Some, None, Ok, refl, sym, ap, subst, arith, eqb-true, eq-eqb}, lemmas.Bool.Decides.nat_tests}, specs.{Cmp.{first_so, second_so}, Option.option_map_or, Prelude.slice_get}}
+use Rattle.std.{proofs.{Common.{◌≡◌, ℕ, zero, suc, ◌+◌, ◌<◌, ◌≤◌, ◌==◌, nat_le, nat_lt, not, ◌&&◌, ◌||◌, Bool, true, false, List, [], ◌∷◌, drop, length, Option, Some, None, Ok, refl, sym, ap, subst, arith, eqb-true, eq-eqb}, lemmas.Bool.Decides.nat_tests}, specs.{Cmp.{first_so, second_so}, List.list_all, Option.option_map_or, Prelude.slice_get}}
 use Rattle.pim_types.{specs.declared.{config.Config.Config, event.{Event.Event, EventKind.EventKind}}}
 use Rattle.pim_model.{specs.{declared.accepted.Accepted.Accepted, Cause.done_as, Limits.config_test, Network.{At, Deliver, DeliverUnicast, Move, Network, Sent, Station, event_of, frame_at, moved, station_at}, State.{State, opening}, Step.state_after, Tables.same_option}}
 use Rattle.law_events.{proofs.Rest.{opening_is_at_rest, run_is_at_rest}}
 use Rattle.law_streams.{specs.{Copies.happens, InTimeJoins.{Always, IsBy, IsReady, time_at}}, proofs.Timed.run_is_timed}
+use Rattle.law_converges.{specs.JoinedWays.AreTogether}
 
 -- ---- of options and numbers
 
@@ -183,9 +184,13 @@ abbrev each_numbered : (ℕ → Sent → Bool) → ℕ → List Sent → Bool
 each_numbered p k [] = true
 each_numbered p k (f ∷ fs) = p k f && each_numbered p (suc k) fs
 
+-- a test of each frame after the first ones
+abbrev pub each_after : ℕ → (ℕ → Sent → Bool) → List Sent → Bool
+each_after first p frames = each_numbered p (suc first) (drop first frames)
+
 -- a test of each frame that is new
 abbrev pub each_new : (ℕ → Sent → Bool) → Network → Network → Bool
-each_new p n next = each_numbered p (suc (length n.frames)) (drop (length n.frames) next.frames)
+each_new p n next = each_after (length n.frames) p next.frames
 
 numbered_so : (p : ℕ → Sent → Bool) (b k : ℕ) (xs : List Sent) (f : Sent) → each_numbered p b xs ≡ true
     → slice_get xs k ≡ Some f → p (k + b) f ≡ true
@@ -207,14 +212,14 @@ dropped_so p (suc a) b (suc k) (x ∷ xs) f e le got =
     subst (λ j. p j f ≡ true) (omega arith)
     (dropped_so p a (suc b) k xs f (subst (λ j. each_numbered p j (drop a xs) ≡ true) (omega arith) e) (omega (arith, le)) got)
 
-pub new_so : (p : ℕ → Sent → Bool) (n next : Network) → each_new p n next ≡ true → (number : ℕ) (f : Sent)
-    → length n.frames < number → frame_at next number ≡ Some f → p number f ≡ true
+pub after_so : (first : ℕ) (p : ℕ → Sent → Bool) (n : Network) → each_after first p n.frames ≡ true → (number : ℕ) (f : Sent)
+    → first < number → frame_at n number ≡ Some f → p number f ≡ true
 unfolding frame_at
-new_so p n next e zero f later got = absurd (omega (arith, later))
-new_so p n next e (suc k) f later got =
+after_so first p n e zero f later got = absurd (omega (arith, later))
+after_so first p n e (suc k) f later got =
     subst (λ j. p j f ≡ true) (omega arith)
-    (dropped_so p (length n.frames) 1 k next.frames f
-    (subst (λ j. each_numbered p j (drop (length n.frames) next.frames) ≡ true) (omega arith) e) (omega (arith, later)) got)
+    (dropped_so p first 1 k n.frames f
+    (subst (λ j. each_numbered p j (drop first n.frames) ≡ true) (omega arith) e) (omega (arith, later)) got)
 
 -- ---- frames that leave a router
 
@@ -244,7 +249,7 @@ pub told_so : (r link protocol : ℕ) (p : Station → ℕ → Sent → Bool) (n
     → p st number (record { link = Some link; bytes = bytes }) ≡ true
 told_so r link protocol p n m next passed e st number bytes ev at later got is =
     else_so _ (λ v. p st number (record { link = Some link; bytes = bytes }))
-    (new_so (λ k f. or_else (not (is_of_protocol link protocol f)) (λ v. p st k f)) n next
+    (after_so (length n.frames) (λ k f. or_else (not (is_of_protocol link protocol f)) (λ v. p st k f)) next
     (each_found (λ (st : Station). each_new (λ k f. or_else (not (is_of_protocol link protocol f)) (λ v. p st k f)) n next)
     (station_at next r) st
     (else_so (r == r) _ (each_found (λ (x : ℕ × Event). or_else (not (x.0 == r)) (λ u. option_map_or (λ (st : Station).
@@ -273,6 +278,39 @@ module _ (d : ℕ) (started : ℕ → ℕ) where
         is_by started lower (end row + started lower + d) next && is_by started upper (end row + started lower + d) next)
         (rows st.state) true) (station_at n lower) st e at) is)
         (λ f g. (by_so started lower (end row + started lower + d) next f, by_so started upper (end row + started lower + d) next g))
+
+-- ---- times at all routers
+
+pub each_passes : (p : Station → Bool) (sts : List Station) → list_all p sts ≡ true → (r : ℕ) (st : Station) → slice_get sts r ≡ Some st
+    → p st ≡ true
+each_passes p [] e r st at = cc at
+each_passes p (x ∷ xs) e zero st at = subst (λ y. p y ≡ true) (same at) (first_so _ _ e)
+  where
+    same : Some x ≡ Some st → x ≡ st
+    same f = cc f
+each_passes p (x ∷ xs) e (suc r) st at = each_passes p xs (second_so (p x) _ e) r st at
+
+module _ (lag : ℕ) (started : ℕ → ℕ) (alike : (q r : ℕ) → started q ≡ started r) where
+  abbrev pub together_at : Network → Bool
+  together_at n =
+      list_all (λ (a : Station). list_all (λ (b : Station). nat_le (a.state).present ((b.state).present + lag)) n.stations) n.stations
+
+  together_so : (n : Network) → together_at n ≡ true → AreTogether lag started n
+  unfolding station_at
+  together_so n e q r a b at_q at_r =
+      plus (a.state).present (b.state).present (started q) (started r)
+      (le_so _ _ (each_passes (λ (b : Station). nat_le (a.state).present ((b.state).present + lag)) n.stations
+      (each_passes (λ (a : Station). list_all (λ (b : Station). nat_le (a.state).present ((b.state).present + lag)) n.stations) n.stations e q a at_q) r b at_r))
+      (alike q r)
+    where
+      plus : (p s u v : ℕ) → p ≤ s + lag → u ≡ v → p + u ≤ s + v + lag
+      plus p s u v e f = omega (arith, e, f)
+
+  abbrev pub together_test : Network → List Move → Bool
+  together_test n ms = run_test together_at (λ n m next ms. true) n ms
+
+  pub all_together : (n : Network) (ms : List Move) → together_test n ms ≡ true → Always (AreTogether lag started) n ms
+  all_together n ms e = always_so together_at (λ n m next ms. true) (AreTogether lag started) together_so ms n e
 
 -- ---- routers that are ready
 

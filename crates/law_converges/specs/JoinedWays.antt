@@ -4,7 +4,7 @@ use Rattle.std.{specs.Prelude.{List, Some, [], false, ℕ, ◌*◌, ◌+◌, ◌
 use Rattle.pim_types.{specs.declared.fact.JoinTimerRow.JoinTimerRow}
 use Rattle.pim_model.{specs.{Network.{Move, Network, Station, station_at}, Tables.row_at}}
 use Rattle.law_streams.{specs.InTimeJoins.{Always, AreInTime, AreThere, IsBy, IsHeld, IsJoin, IsReady, IsUnlost, Join, Pair, Wants, join_key, most_late, time_at}}
-use Rattle.law_converges.{specs.Settles.HoldsPast}
+use Rattle.law_converges.{specs.Past.HoldsPast}
 
 -- the longest that a Join timer runs: where another router's Join holds a Join back, 1.4 times the period of 60 s
 abbrev pub longest_join : ℕ

@@ -21,5 +21,10 @@ pub mod JoinedWaysRun
 pub mod LinkRpt
 pub mod LinkRptOrder
 pub mod LinkRptRun
+pub mod Past
+pub mod Carried
+pub mod CarriedLinks
+pub mod CarriedPrunes
 pub mod Settles
+pub mod CarriedNetwork
 pub mod SettlesRun

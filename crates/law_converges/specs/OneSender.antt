@@ -3,7 +3,7 @@
 use Rattle.std.{specs.{List.Contains, Prelude.{Bool, List, Some, [], false, if◌then◌else◌, not, true, ℕ, ◌&&◌, ◌<◌, ◌==◌, ◌∷◌, ◌≡◌, ◌⊎◌}}}
 use Rattle.pim_ip.{specs.Ipv4.Packet}
 use Rattle.pim_types.{specs.declared.{config.IfaceId.IfaceId, event.Event.Event, fact.AssertMetric.AssertMetric}}
-use Rattle.pim_model.{specs.{declared.accepted.Accepted.Accepted, Cause.done_as, Network.{Move, Network, Station, event_of, moved, station_at}, Sets.{is_better, lost_assert, lost_assert_rpt, lost_assert_star, spt_bit, spt_metric}, State.State, Unicast.{is_rpf_interface, is_rpf_interface_rp}, Writing.on_link}}
+use Rattle.pim_model.{specs.{declared.accepted.Accepted.Accepted, Cause.done_as, Network.{Move, Network, Station, moved, station_at}, Sets.{is_better, lost_assert, lost_assert_rpt, lost_assert_star, spt_bit, spt_metric}, State.State, Unicast.{is_rpf_interface, is_rpf_interface_rp}, Writing.on_link}}
 use Rattle.law_streams.{specs.{Adjacent.Adjacent, Copies.{copies_at, happens}, InTimeJoins.{Always, IsBy}, Served.renewed}}
 use Rattle.law_converges.{specs.LinkLosers.{AssertsBy, AssertsComeInTime, LosesBeyond, most_late_assert, winner_of}}
 
@@ -37,36 +37,26 @@ pub record IsOffTree (g src : ℕ) (metric : AssertMetric) (c : Adjacent) (n : N
   pub source : (src == 0) ≡ false → is_rpf_interface station.state src c.down ≡ false
   pub beaten : (src == 0) ≡ false → is_better (winner_of g src metric c) (spt_metric station.state src c.down) ≡ true
 
--- whatever packet of these the move brings the other one, none leaves on the link
-abbrev pub SendsNoneAt : (g src : ℕ) → Adjacent → Network → Move → Type 0
-SendsNoneAt g src c n m = (e : Event) (st : Station) (i : IfaceId) (p : Packet) (text : List ℕ)
-    → event_of n m ≡ Some (c.upper, e) → station_at n c.upper ≡ Some st → done_as (happens st.state e) ≡ Some (Accepted.Data i p)
-    → is_about_packet st.state g src i.number p ≡ true → Contains (copies_at st.state e) (on_link c.down text) → ⊥
-
-abbrev pub SendsNone : (g src : ℕ) → Adjacent → Network → List Move → Type 0
-SendsNone g src c n [] = Unit {0}
-SendsNone g src c n (m ∷ ms) = SendsNoneAt g src c n m × SendsNone g src c (moved n m).1 ms
+-- whatever packet of these comes to the other one, none leaves on the link
+abbrev pub IsSilent : (g src : ℕ) → Adjacent → Network → Type 0
+IsSilent g src c n = (e : Event) (st : Station) (i : IfaceId) (p : Packet) (text : List ℕ) → station_at n c.upper ≡ Some st
+    → done_as (happens st.state e) ≡ Some (Accepted.Data i p) → is_about_packet st.state g src i.number p ≡ true
+    → Contains (copies_at st.state e) (on_link c.down text) → ⊥
 
 -- While one is the winner, the other one, which has lost, sends none of these packets on the link: at most one of both does.
 abbrev pub AtMostOneSends : Type 0
 AtMostOneSends = (g src : ℕ) (metric : AssertMetric) (d bound : ℕ) (started : ℕ → ℕ) (c : Adjacent) (n : Network) (ms : List Move)
     → d < most_late_assert → AssertsComeInTime g src metric d started c n ms → AssertsBy g src metric d bound started c n
-    → LosesBeyond g src metric bound started c n → Always (IsOffTree g src metric c) n ms → SendsNone g src c n ms
+    → LosesBeyond g src metric bound started c n → Always (IsOffTree g src metric c) n ms → Always (IsSilent g src c) n ms
 
--- the next move, if there is one
-abbrev pub SendsNoneNext : (g src : ℕ) → Adjacent → Network → List Move → Type 0
-SendsNoneNext g src c n [] = Unit {0}
-SendsNoneNext g src c n (m ∷ ms) = SendsNoneAt g src c n m
-
--- after each move the other one's time isn't past a bound yet, or it sends none at the next
-abbrev pub SendsNoneAfter : (g src : ℕ) → (ℕ → ℕ) → Adjacent → (bound : ℕ) → Network → List Move → Type 0
-SendsNoneAfter g src started c bound n [] = Unit {0}
-SendsNoneAfter g src started c bound n (m ∷ ms) =
-    (IsBy started c.upper bound (moved n m).1 ⊎ SendsNoneNext g src c (moved n m).1 ms)
-    × SendsNoneAfter g src started c bound (moved n m).1 ms
+-- after each move the other one's time isn't past a bound yet, or it sends none
+abbrev pub IsSilentAfter : (g src : ℕ) → (ℕ → ℕ) → Adjacent → (bound : ℕ) → Network → List Move → Type 0
+IsSilentAfter g src started c bound n [] = Unit {0}
+IsSilentAfter g src started c bound n (m ∷ ms) =
+    (IsBy started c.upper bound (moved n m).1 ⊎ IsSilent g src c (moved n m).1) × IsSilentAfter g src started c bound (moved n m).1 ms
 
 -- From 2 d after the winner's next Assert on at most one of both sends, whatever the other one was before.
 abbrev pub AtMostOneComesToSend : Type 0
 AtMostOneComesToSend = (g src : ℕ) (metric : AssertMetric) (d bound : ℕ) (started : ℕ → ℕ) (c : Adjacent) (n : Network) (ms : List Move)
     → d < most_late_assert → AssertsComeInTime g src metric d started c n ms → AssertsBy g src metric d bound started c n
-    → Always (IsOffTree g src metric c) n ms → SendsNoneAfter g src started c bound n ms
+    → Always (IsOffTree g src metric c) n ms → IsSilentAfter g src started c bound n ms

@@ -3,7 +3,7 @@ use Rattle.std.{specs.Prelude.{Some, [], ◌++◌, ◌∷◌, ◌≡◌}}
 use Rattle.pim_model.{specs.Network.{At, Move, Sent, moved}}
 use Rattle.pim_runs.{specs.{Base.group, Packets.packet, Words.{frame, hex}}}
 use Rattle.law_streams.{specs.InTimeJoins.Always}
-use Rattle.law_converges.{specs.{LinkAssertsRun.{beside, better}, LinkLosers.{AssertsBy, AssertsComeInTime, LosesBeyond}, LinkLosersRun.{has_heard, late_assert, later_bound, started_later, two_of_late}, OneSender.{IsOffTree, SendsNone}}}
+use Rattle.law_converges.{specs.{LinkAssertsRun.{beside, better}, LinkLosers.{AssertsBy, AssertsComeInTime, LosesBeyond}, LinkLosersRun.{has_heard, late_assert, later_bound, started_later, two_of_late}, OneSender.{IsOffTree, IsSilent}}}
 
 -- it comes from the RP's side
 abbrev pub data_comes : Move
@@ -25,4 +25,4 @@ FartherSendsNone =
     × AssertsBy group 0 better late_assert later_bound started_later beside has_heard
     × LosesBeyond group 0 better later_bound started_later beside has_heard
     × Always (IsOffTree group 0 better beside) has_heard (data_comes ∷ [])
-    × SendsNone group 0 beside has_heard (data_comes ∷ [])
+    × Always (IsSilent group 0 beside) has_heard (data_comes ∷ [])

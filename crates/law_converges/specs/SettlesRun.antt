@@ -5,7 +5,7 @@ use Rattle.pim_types.{specs.declared.event.Event.Event}
 use Rattle.igmp_wire.{specs.Reports.report_text}
 use Rattle.pim_model.{specs.{Network.{At, Deliver, Move, Network, network_ran}, Tables.hop_at}}
 use Rattle.pim_runs.{specs.{InTime.{joined, started}, ServedChain.{asked_group, first, hello_from, root, second, station, third}, Words.{address, advance, frame, up}}}
-use Rattle.law_converges.{specs.{LinkDr.Member, LinkMembersRun.wish, LinkQuerierRun.settings, Settles.{HasSettled, IsQuietNetwork, Joining, Layout, Link}}}
+use Rattle.law_converges.{specs.{LinkDr.Member, LinkMembersRun.wish, LinkQuerierRun.settings, Settles.{HasSettled, IsQuietNetwork, Joining, Layout, Link, Way}}}
 
 -- a host's answer, an IS_EX of no source
 abbrev pub answer_on : (i from : ℕ) → Event
@@ -68,8 +68,12 @@ joins_rp = record {
   pair = record { lower = 1; upper = 2; link = 2; hop = hop_at 1 root; from = address 10 0 2 1; down = 0 };
 }
 
+-- which is a way of one next hop
+abbrev pub rp_way : Way
+rp_way = record { join = joined; group = asked_group; first = 1; hops = (joins_rp).pair ∷ [] }
+
 abbrev pub two_lans : Layout
-two_lans = record { links = lower_lan ∷ upper_lan ∷ []; joinings = joins_rp ∷ [] }
+two_lans = record { links = lower_lan ∷ upper_lan ∷ []; joinings = joins_rp ∷ []; ways = rp_way ∷ []; contests = []; wires = [] }
 
 -- The Hello, query and Join timers expire, what leaves is delivered, the hosts answer the queries of both queriers, as each
 -- router of their LANs hears, and the time of all goes past the bound.
@@ -85,12 +89,16 @@ settling =
 abbrev pub late : ℕ
 late = 6000
 
+-- no router is further than this ahead of another, in ms
+abbrev pub lag : ℕ
+lag = 12500
+
 -- the next general queries leave at 156.25 s, and six seconds twice later is the bound
 abbrev pub settled_bound : ℕ
 settled_bound = 168250
 
 abbrev pub TwoLansAreQuiet : Type 0
-TwoLansAreQuiet = IsQuietNetwork late settled_bound started two_lans unsettled settling
+TwoLansAreQuiet = IsQuietNetwork late lag settled_bound started two_lans unsettled settling
 
 abbrev pub TwoLansSettle : Type 0
 TwoLansSettle = HasSettled two_lans (network_ran unsettled settling).1
