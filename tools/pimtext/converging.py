@@ -38,8 +38,8 @@ PROVED = {
     "Joins held": ("in part", "2d after the Join timer: JoinsComeToBeHeld, AllComeToBeHeld; that it is 84 s isn't"),
     "Joins gone": ("no", ""),
     "one sender": ("in part", "of a winner and its loser: AtMostOneComesToSend, OneWinnerIsLeft; the time isn't"),
-    "a tree joined": ("in part", "that it stays: WayStaysJoined; the time isn't"),
-    "all": ("in part", "one DR, one querier, members and Joins at once: NetworkSettles; the rest and the time aren't"),
+    "a tree joined": ("in part", "84 s + 2d + 3e a hop, e the routers' lag: WayComesToBeJoined; the time here isn't"),
+    "all": ("in part", "all but what is gone at once: NetworkSettles, CarriedNetworkSettles; the time isn't"),
 }
 
 
