@@ -84,7 +84,7 @@ SPOILS = [
     Spoil("torture/bench/forwarder/plain.rs", "const FRAME_LIMIT: usize = 1500", "const FRAME_LIMIT: usize = 15",
         "forward", "returned non-zero"),
     Spoil("torture/stress/program.py", "if status == 3 and kind", "if status == 5 and kind", "program", " 1 other"),
-    Spoil("tools/pimtext/frr_lab.py", '"query_interval": "qi"', '"query_interval": "qri"', "test_from_frr",
+    Spoil("tools/pimtext/files/frr_lab.py", '"query_interval": "qi"', '"query_interval": "qri"', "test_from_frr",
         "test_older_and_newer_forms"),
     Spoil(".ci/run", "exec ", "exec $(", "lint", ".ci/run"),
     # The crates: a rule, a type, the layout, a definition that can't be read.

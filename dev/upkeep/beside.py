@@ -12,8 +12,8 @@ from collections.abc import Callable, Iterable, Iterator
 from pathlib import Path
 from typing import TYPE_CHECKING, Any
 
-from pimtext import checks, kit
-from pimtext.kept import cache
+from pimtext.build import checks, kit
+from pimtext.build.kept import cache
 from upkeep.edits import Crate, Edit
 from upkeep.together import Answer, Prover, all_tried
 

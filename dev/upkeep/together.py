@@ -12,8 +12,8 @@ from collections.abc import Iterable, Iterator
 from pathlib import Path
 from typing import TYPE_CHECKING
 
-from pimtext import kit
-from pimtext.checks import ran
+from pimtext.build import kit
+from pimtext.build.checks import ran
 from upkeep.edits import ERROR, KINDS, Crate, Edit, Reason, clause_of
 
 if TYPE_CHECKING:

@@ -8,7 +8,7 @@ from __future__ import annotations
 from dataclasses import dataclass
 from typing import TYPE_CHECKING
 
-from pimtext.diagnosis import Diagnosis
+from pimtext.causes.diagnosis import Diagnosis
 from viqeshor import lab
 from viqeshor.lab import (
     NEVER, Active, AssertState, Downstream, GroupRecord, Link, Mistake, Neighbour, OlderHosts, Port, Received, Router,
@@ -19,7 +19,7 @@ from viqeshor.lab.lines import Lines
 from viqeshor.lab.mistakes import group_given, source_given
 
 if TYPE_CHECKING:
-    from pimtext.streams import Stream
+    from pimtext.ways.streams import Stream
 
 __all__ = [
     "NEVER", "Active", "AssertState", "Downstream", "GroupRecord", "Host", "Link", "Mistake", "Neighbour", "Network",

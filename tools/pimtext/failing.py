@@ -21,7 +21,7 @@ from viqeshor.lab.topology import ways
 if TYPE_CHECKING:
     from viqeshor.lab.network import Network
     from viqeshor.lab.topology import Link
-    from pimtext.playpage import Told
+    from pimtext.shown.playpage import Told
 
 # Seconds of the stream before the failure; then packets a second apart at first, and later EVERY seconds apart.
 BEFORE, CLOSE = 5, 10
@@ -220,7 +220,7 @@ class Trial:
 
     def told(self, failure: Failure | None) -> Told:
         """The run of a failure, or of none, for a page."""
-        from pimtext import labfile
+        from pimtext.files import labfile
         play(self.net, failure, self.seconds)
         return labfile.told(self.net, failure.what if failure else "no failure")
 

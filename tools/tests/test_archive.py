@@ -4,7 +4,7 @@ import unittest
 from pathlib import Path
 from unittest import mock
 
-from pimtext import library
+from pimtext.build import library
 
 
 class Given(unittest.TestCase):

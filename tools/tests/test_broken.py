@@ -8,12 +8,12 @@ import tarfile
 import unittest
 from dataclasses import dataclass, field
 
-from pimtext import pimlab
+from pimtext.files import pimlab
 from viqeshor.lab import scenario, toml_lines
-from pimtext.channels import as_csv, channels_of, phases_of
-from pimtext.diagnosis import Diagnosis
+from pimtext.causes.channels import as_csv, channels_of, phases_of
+from pimtext.causes.diagnosis import Diagnosis
 from viqeshor.lab.faults import faults_of
-from pimtext.latencies import Latencies
+from pimtext.causes.latencies import Latencies
 from tests import stored
 
 ARCHIVE = stored.TOOLS / "tests" / "broken.tar.xz"

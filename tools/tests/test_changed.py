@@ -10,11 +10,12 @@ import tempfile
 import unittest
 from pathlib import Path
 
-from pimtext import pimlab, playpage, view_text, views
+from pimtext.files import pimlab
+from pimtext.shown import playpage, view_text, views
 from viqeshor.lab import scenario, story, toml_lines
-from pimtext.diagnosis import Diagnosis
+from pimtext.causes.diagnosis import Diagnosis
 from viqeshor.lab.faults import faults_of
-from pimtext.notes import Notes
+from pimtext.causes.notes import Notes
 from tests import stored
 
 SEED, ROUNDS = int(os.environ.get("SEED", 1)), int(os.environ.get("ROUNDS", 1))

@@ -3,7 +3,7 @@ import re
 import shutil
 import unittest
 
-from pimtext import pimlab
+from pimtext.files import pimlab
 from viqeshor.lab import colours, scenario, story, toml_lines
 from viqeshor.lab.known import known_after
 from tests import networks, stored

@@ -3,8 +3,8 @@ import shutil
 import subprocess
 import unittest
 
-from pimtext import builds, kept, kit, unproved
-from pimtext.modules import Module
+from pimtext.build import builds, kept, kit, unproved
+from pimtext.build.modules import Module
 
 CRATE = kept.TOP / "crates" / "embed"
 

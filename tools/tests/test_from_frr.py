@@ -8,7 +8,7 @@ import unittest
 from pathlib import Path
 from unittest import mock
 
-from pimtext import frr, frr_lab
+from pimtext.files import frr, frr_lab
 from tests import rooms, stored
 
 FRR = Path(__file__).resolve().parent / "frr"

@@ -6,7 +6,7 @@ import tempfile
 import unittest
 from pathlib import Path
 
-from pimtext import capture, captured, frr, frr_lab, matched, pimlab
+from pimtext.files import capture, captured, frr, frr_lab, matched, pimlab
 from viqeshor.lab import packets, story
 from tests import stored
 

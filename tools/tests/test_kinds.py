@@ -8,7 +8,8 @@ import unittest
 from pathlib import Path
 
 from lab import Network
-from pimtext import checked, kinds, pimlab, playpage
+from pimtext.files import checked, kinds, pimlab
+from pimtext.shown import playpage
 from viqeshor.lab import faults, scenario, written
 from tests import stored
 

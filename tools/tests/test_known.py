@@ -11,11 +11,14 @@ import unittest
 from concurrent.futures import ThreadPoolExecutor
 from unittest.mock import patch
 
-from pimtext import pimlab, playpage, served, shared
-from pimtext.kept import cache
+from pimtext.build import shared
+from pimtext.files import pimlab
+from pimtext.shown import playpage
+from pimtext.ways import served
+from pimtext.build.kept import cache
 from viqeshor.lab import asked, packets, printed, scenario, story, twin
 from viqeshor.lab.known import begun, copied, follow, known_after
-from pimtext.moments import after_moves
+from pimtext.ways.moments import after_moves
 from viqeshor.lab.older import read_heard
 from tests import stored
 from tests.networks import GROUP, SOURCE, Network

@@ -10,7 +10,7 @@ from unittest import mock
 from lab import GroupRecord, Network
 from viqeshor.lab import hosts, topology
 from viqeshor.lab.hosts import ALLOW, BLOCK, IS_EX, IS_IN, TO_EX, TO_IN, Wish
-from pimtext import pimlab
+from pimtext.files import pimlab
 from viqeshor.lab import packets, scenario, story, twin
 from viqeshor.lab.printed import OlderHosts
 from tests import stored

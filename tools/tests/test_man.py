@@ -5,7 +5,7 @@ import shutil
 import subprocess
 import unittest
 
-from pimtext import library
+from pimtext.build import library
 from tests import stored
 
 man = stored.tool("man")

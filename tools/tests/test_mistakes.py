@@ -1,9 +1,9 @@
 """What `tools/why --run` says where a stream doesn't come though nothing is refused: each mistake with its line."""
 import unittest
 
-from pimtext import pimlab
+from pimtext.files import pimlab
 from viqeshor.lab import scenario, toml_lines
-from pimtext.diagnosis import Diagnosis
+from pimtext.causes.diagnosis import Diagnosis
 from viqeshor.lab.faults import faults_of
 from tests.networks import ALLOW, GROUP, HOST, RP, SOURCE, SSM, TO_EX, Network, data, report, router
 

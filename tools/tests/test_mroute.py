@@ -6,7 +6,8 @@ import tempfile
 import unittest
 from pathlib import Path
 
-from pimtext import pimlab, view_text, views
+from pimtext.files import pimlab
+from pimtext.shown import view_text, views
 from viqeshor.lab import asked, story
 from viqeshor.lab.known import known_after
 from tests import stored

@@ -7,7 +7,7 @@ import unittest
 from collections import Counter
 from pathlib import Path
 
-from pimtext import pimlab
+from pimtext.files import pimlab
 from viqeshor.lab import scenario, story
 from tests import stored
 from tests.networks import GROUP, SOURCE, TO_EX, Network, data, report

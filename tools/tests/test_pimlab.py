@@ -8,7 +8,7 @@ import unittest
 from concurrent.futures import ThreadPoolExecutor
 from pathlib import Path
 
-from pimtext.pimlab import PIMLAB
+from pimtext.files.pimlab import PIMLAB
 from tests import stored
 
 ONE_JOIN = stored.EXAMPLES / "one_join.toml"

@@ -7,7 +7,8 @@ import unittest
 from pathlib import Path
 
 from lab import Network
-from pimtext import labfile, pimlab, playpage, recorded
+from pimtext.files import labfile, pimlab
+from pimtext.shown import playpage, recorded
 from viqeshor.lab import colours, printed, scenario, story
 from tests import browser, networks, stored
 

@@ -8,7 +8,7 @@ import tomllib
 import unittest
 from pathlib import Path
 
-from pimtext.library import Library
+from pimtext.build.library import Library
 
 TOOLS = Path(__file__).resolve().parent.parent
 sys.path.insert(0, str(TOOLS.parent / "bindings" / "python" / "src"))

@@ -13,8 +13,8 @@ import unittest.mock
 import zipfile
 from pathlib import Path
 
-from pimtext import library
-from pimtext.wheel import PACKAGE
+from pimtext.build import library
+from pimtext.build.wheel import PACKAGE
 from tests import stored
 
 TOP = library.TOP

@@ -1,4 +1,4 @@
-"""pimtext.saved reads the bytes of docs/SAVED.md, and refuses others by its numbers."""
+"""pimtext.files.saved reads the bytes of docs/SAVED.md, and refuses others by its numbers."""
 import re
 import subprocess
 import sys
@@ -6,7 +6,7 @@ import tempfile
 import unittest
 from pathlib import Path
 
-from pimtext import saved
+from pimtext.files import saved
 
 TOP = Path(__file__).resolve().parent.parent.parent
 KNOWN = TOP / "crates" / "test_bytes" / "src" / "tests" / "saved_states.rt"

@@ -11,7 +11,8 @@ import unittest
 from pathlib import Path
 
 import lab
-from pimtext import pimlab, watched
+from pimtext.files import pimlab
+from pimtext.ways import watched
 from viqeshor.lab import packets, scenario, story
 from tests import stored
 from tests.networks import ALLOW, GROUP, HOST, RP, SOURCE, SSM, TO_EX, Network, data, report, router

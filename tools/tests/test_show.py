@@ -3,7 +3,7 @@ import subprocess
 import unittest
 from collections import Counter
 
-from pimtext import pimlab
+from pimtext.files import pimlab
 from viqeshor.lab import story
 from tests import stored
 from tests.rooms import repository

@@ -2,7 +2,8 @@
 step."""
 import unittest
 
-from pimtext import past, pimlab, trace, watched, wire
+from pimtext.files import pimlab
+from pimtext.ways import past, trace, watched, wire
 from viqeshor.lab import packets, printed, scenario, story
 from tests.networks import GROUP, HOST, RP, SETTLE, SOURCE, TO_EX, Network, data, report, router
 

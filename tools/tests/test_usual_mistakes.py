@@ -11,9 +11,9 @@ import unittest
 from collections import Counter
 from dataclasses import dataclass, field
 
-from pimtext import pimlab
+from pimtext.files import pimlab
 from viqeshor.lab import packets, scenario, toml_lines
-from pimtext.diagnosis import Diagnosis
+from pimtext.causes.diagnosis import Diagnosis
 from viqeshor.lab.faults import faults_of
 from tests import stored
 

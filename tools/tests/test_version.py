@@ -3,7 +3,7 @@ import re
 import tomllib
 import unittest
 
-from pimtext import library
+from pimtext.build import library
 
 TOP = library.TOP
 VERSION = (TOP / "VERSION").read_text().strip()

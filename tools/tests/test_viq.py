@@ -8,7 +8,8 @@ import tempfile
 import unittest
 from pathlib import Path
 
-from pimtext import library, pimlab
+from pimtext.build import library
+from pimtext.files import pimlab
 from viqeshor.lab import written
 from pimtext.called import CUT_OFF
 from tests import stored

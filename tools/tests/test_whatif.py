@@ -14,7 +14,8 @@ from pathlib import Path
 from tests import stored
 
 sys.path.append(str(stored.TOOLS / "networks"))
-from pimtext import failing, live  # noqa: E402
+from pimtext import failing  # noqa: E402
+from pimtext.shown import live  # noqa: E402
 
 LAN = """
 from lab import Network

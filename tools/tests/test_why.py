@@ -12,11 +12,12 @@ import unittest
 from collections import Counter
 from concurrent.futures import ThreadPoolExecutor
 
-from pimtext import notes, pimlab
+from pimtext.causes import notes
+from pimtext.files import pimlab
 from viqeshor.lab import scenario, toml_lines
-from pimtext.diagnosis import Diagnosis
+from pimtext.causes.diagnosis import Diagnosis
 from viqeshor.lab.faults import faults_of
-from pimtext.pimlab import PIMLAB
+from pimtext.files.pimlab import PIMLAB
 from tests import stored
 
 GOOD = """\

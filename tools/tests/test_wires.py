@@ -9,7 +9,7 @@ import tempfile
 import unittest
 from pathlib import Path
 
-from pimtext import program
+from pimtext.build import program
 from tests import stored
 
 CC = os.environ.get("CC", "cc")

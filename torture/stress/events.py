@@ -31,7 +31,7 @@ from dataclasses import dataclass, field
 from functools import cache
 from pathlib import Path
 
-from pimtext.library import CC, add_choice, chosen
+from pimtext.build.library import CC, add_choice, chosen
 from stress.loaded import FACTS, KINDS, TOLD, Kind, Lines, empty
 
 TOP = Path(__file__).resolve().parent.parent.parent

@@ -21,7 +21,7 @@ import subprocess
 import tempfile
 from pathlib import Path
 
-from pimtext.library import add_choice, chosen
+from pimtext.build.library import add_choice, chosen
 from stress.loaded import FIRST_GROUP, IS_EX, RECORDS_A_REPORT, member_record, packet, report_packet
 
 FORWARDER = Path(__file__).resolve().parent.parent / "bench" / "forwarder" / "forwarder.rs"

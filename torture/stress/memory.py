@@ -23,7 +23,7 @@ from collections.abc import Iterable, Iterator
 from pathlib import Path
 from typing import Any
 
-from pimtext.library import add_choice, chosen
+from pimtext.build.library import add_choice, chosen
 from stress.stored import STORED, Stored, routers
 from viqeshor.lab import fed, story
 from viqeshor.lab.addresses import address_in, prefix_in

@@ -22,13 +22,13 @@ from pathlib import Path
 from typing import TYPE_CHECKING, Any
 
 import viqeshor
-from pimtext.library import CC, ROOM, add_choice, beside, chosen, ran
+from pimtext.build.library import CC, ROOM, add_choice, beside, chosen, ran
 from stress.dataplane import DUTIES, CaughtUp, Plane, outcome
 from stress.happenings import Event, Happenings, events_of
 from stress.stored import made, routers
 
 if TYPE_CHECKING:
-    from pimtext.library import Library
+    from pimtext.build.library import Library
 
 REFUSING = Path(__file__).resolve().parent.parent / "refuse" / "plane.c"
 

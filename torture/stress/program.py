@@ -17,8 +17,8 @@ import sys
 import tempfile
 from pathlib import Path
 
-from pimtext import program
-from pimtext.library import CC
+from pimtext.build import program
+from pimtext.build.library import CC
 
 TOP = Path(__file__).resolve().parent.parent.parent
 OFTEN = ("alloc", "write", "short", "again")

@@ -10,11 +10,11 @@ sent the same, to save the same bytes, to have the same next moment, and to offe
 that has a fact. A restored router has nothing to send and changed no source. Which hosts of older versions of IGMP it
 hears is set again.
 
-The last saved bytes of each router are read by docs/SAVED.md alone (pimtext.saved), and have to say its printed tables.
-Then they are spoilt: cut off at each length, continued, and N times one byte is changed, and two numbers of four bytes
-are exchanged. Each time the bytes have to be refused by the number by which pimtext.saved refuses them. Where it reads
-them they have to be refused by 66, 67, 68, 71 or 72, or to be those that their router saves, which then has to let
-time pass.
+The last saved bytes of each router are read by docs/SAVED.md alone (pimtext.files.saved), and have to say its printed
+tables. Then they are spoilt: cut off at each length, continued, and N times one byte is changed, and two numbers of
+four bytes are exchanged. Each time the bytes have to be refused by the number by which pimtext.files.saved refuses
+them. Where it reads them they have to be refused as a state that no router goes on from, or to be those that their
+router saves, which then has to let time pass.
 
 Last comes what saving and restoring costs, of a router with N facts. Each part prints a line.
 """
@@ -29,8 +29,8 @@ from pathlib import Path
 from typing import Any
 
 import viqeshor
-from pimtext import saved as by_document
-from pimtext.library import add_choice, chosen
+from pimtext.files import saved as by_document
+from pimtext.build.library import add_choice, chosen
 from stress.dataplane import outcome
 from stress.happenings import Event, Happenings, events_of
 from stress.stored import made, routers

@@ -7,7 +7,7 @@ from pathlib import Path
 from typing import TYPE_CHECKING, Any
 
 import viqeshor
-from pimtext import pimlab
+from pimtext.files import pimlab
 from viqeshor.lab import fed, story
 
 if TYPE_CHECKING:

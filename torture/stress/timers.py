@@ -17,9 +17,9 @@ import sys
 import tempfile
 from pathlib import Path
 
-from pimtext import kit
-from pimtext.kept import crates_of
-from pimtext.modules import Module, parts
+from pimtext.build import kit
+from pimtext.build.kept import crates_of
+from pimtext.build.modules import Module, parts
 
 TOP = Path(__file__).resolve().parent.parent.parent
 BENCH = TOP / "torture" / "bench"

@@ -4,7 +4,7 @@ import os
 import shutil
 import unittest
 
-from pimtext.library import Library
+from pimtext.build.library import Library
 from stress import plane
 
 CC = os.environ.get("CC", "cc")

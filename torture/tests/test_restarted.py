@@ -7,8 +7,8 @@ import unittest
 from argparse import Namespace
 from unittest import mock
 
-from pimtext import saved as by_document
-from pimtext.library import Library
+from pimtext.files import saved as by_document
+from pimtext.build.library import Library
 from stress import restarted
 from viqeshor.lab.facts import REFUSED_BYTES, REFUSED_STATES
 
