@@ -76,7 +76,7 @@ module _ (x : Join) (g d late : ℕ) (started : ℕ → ℕ) (t : Traffic) (link
     record {
       timer = λ st row at is. (timely low.router st row at is, timely up.router st row at is);
       joins = λ e st number pruned ev at new got. (
-        (keeps.0).writable e number pruned ev new got,
+        (keeps.0).writable e st number pruned ev at new got,
         sent_comes d late started t link members first came n m ms on up up_among number new low apart e st (frame_of x g c pruned).bytes ev at
             got (EachMove (JoinKeeps x g t c)) (λ sent n ms. ComesBy x g d started c pruned number sent n ms) (λ n m ms q. q.1) (λ n. tt)
             (λ n m ms draw q is framed after. inl (record {
@@ -98,7 +98,7 @@ module _ (x : Join) (g d late : ℕ) (started : ℕ → ℕ) (t : Traffic) (link
               after = after;
               room = λ st at. (q.0).room number draw from pruned st is framed at;
             };
-            hears = λ st at. (q.0).hears number draw from pruned st is framed at;
+            hears = λ st at. (q.0).hears number draw from pruned st writable.from_host is framed at;
           })) (λ n m ms by rest. inr (by, rest)) keeps.1;
       shared = λ e st ev at is. seen_so came n m ms on there.0 ((keeps.0).shared e st ev at is);
     },

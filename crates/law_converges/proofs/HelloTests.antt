@@ -1,9 +1,9 @@
 -- Whether the routers of a link greet each other in time, as ExactlyOneDr asks: a test, and that where it passes they do.
 use Rattle.std.{proofs.{Common.{◌≡◌, ℕ, ◌+◌, ◌*◌, ◌≤◌, ◌==◌, ◌^◌, max, nat_le, nat_lt, not, ◌&&◌, ◌||◌, Bool, true, false, List, [], ◌∷◌, inl, inr, Option, Some, None, refl, subst, arith, eqb-true, eq-eqb}, lemmas.{Bool.Decides.nat_tests}}, specs.{Cmp.{first_so, second_so}, List.{list_all}, Option.option_map_or, Prelude.slice_get}}
 use Rattle.pim_ip.{specs.Ipv4.{header_text, is_unicast, pim_packet_text}, specs.Checksum.with_checksum}
-use Rattle.pim_types.{specs.{Keys.{iface_key, neighbour_key}, declared.{fact.{InterfaceRow.InterfaceRow, NeighbourRow.NeighbourRow}}}}
+use Rattle.pim_types.{specs.{Keys.{iface_key, neighbour_key}, declared.{event.Event.Event, fact.{InterfaceRow.InterfaceRow, NeighbourRow.NeighbourRow}}}}
 use Rattle.pim_wire.{specs.Hellos.hello_holdtime}
-use Rattle.pim_model.{specs.{declared.accepted.Accepted.Accepted, Cause.done_as, Full.{hello_is_full}, Network.{Move, Network, Sent, Station, moved, station_at}, State.{Addressing, State, address_among, iface_count, is_own, is_up, my_priority, value_among}, Tables.{later_end, row_at, same_option}}}
+use Rattle.pim_model.{specs.{declared.accepted.Accepted.Accepted, Cause.done_as, Full.{hello_is_full}, Network.{Move, Network, Sent, Station, event_of, moved, station_at}, State.{Addressing, State, address_among, iface_count, is_own, is_up, my_priority, value_among}, Tables.{later_end, row_at, same_option}}}
 use Rattle.law_streams.{specs.{Adjacent.{Adjacent, HelloComes, HelloComesBy, HelloInTime, HellosInTime, begins_or_ends, shortens}, Copies.happens, Hellos.{hello_of}, InTimeJoins.{IsReady, time_at}, Neighbours.HoldsNeighbour}}
 use Rattle.law_converges.{specs.{LinkDr.{AreOfMembers, ForgetsBy, GreetsBy, IsOne, MeetInTime, Member, Stands, between, is_known, is_of_member}}, proofs.{Tested.{Delivery, Found, comes_by, comes_so, delivery_so, found, happens_not, if_so, is_delivery, late_so, late_test, le_so, lt_so, moves_so, always_so, not_so, off_so, on_so, or_else, run_test, same_so, then, told_so, told_test}}}
 
@@ -28,6 +28,18 @@ member_so x y e =
     made : x.router ≡ y.router → x.iface ≡ y.iface → x.address ≡ y.address → x.priority ≡ y.priority → x ≡ y
     made a b c d = grind arith
 
+-- each router has one interface there
+abbrev pub single_test : List Member → Bool
+single_test members = list_all (λ x. list_all (λ y. not (x.router == y.router) || same_member x y) members) members
+
+pub single_so : (members : List Member) → single_test members ≡ true → (x y : Member) → IsOne members x → IsOne members y
+    → x.router ≡ y.router → x ≡ y
+single_so members e x y a b same =
+    member_so x y (if_so (x.router == y.router) (same_member x y)
+    (one_of (λ y. not (x.router == y.router) || same_member x y) members y
+    (one_of (λ x. list_all (λ y. not (x.router == y.router) || same_member x y) members) members x e a) b)
+    (eq-eqb x.router y.router same))
+
 hello_is_pim : (cs : Addressing) (i generation : ℕ) → slice_get (hello_of cs i generation) 9 ≡ Some 103
 unfolding pim_packet_text header_text with_checksum
 hello_is_pim cs i generation = refl
@@ -36,7 +48,7 @@ module _ (d bound : ℕ) (started : ℕ → ℕ) where
   -- ---- Hellos
 
   -- a Hello of the neighbour ends sooner than the one before
-  abbrev shortens_known : State → (i address : ℕ) → Option Accepted → Bool
+  abbrev pub shortens_known : State → (i address : ℕ) → Option Accepted → Bool
   shortens_known s i address a =
       option_map_or (λ (row : NeighbourRow). option_map_or (λ end. shortens s i address end a) row.end true)
       (row_at s.neighbours (neighbour_key i address)) false
@@ -47,7 +59,7 @@ module _ (d bound : ℕ) (started : ℕ → ℕ) where
   no_shorter s i address x end le (Some (Accepted.Hello j from h)) e = grind (arith, nat_tests, le)
   no_shorter s i address x end le (Some a) e = grind arith
 
-  known_lasts : (s : State) (i address end : ℕ) (a : Option Accepted) → shortens_known s i address a ≡ false
+  pub known_lasts : (s : State) (i address end : ℕ) (a : Option Accepted) → shortens_known s i address a ≡ false
       → HoldsNeighbour s i address end → shortens s i address end a ≡ false
   known_lasts s i address end a e f = go (f.row).end refl
     where
@@ -64,7 +76,7 @@ module _ (d bound : ℕ) (started : ℕ → ℕ) where
           le most = let same : max x end ≡ x = cc most in grind (arith, same)
 
   module _ (c : Adjacent) where
-    abbrev hears_hello : (sent : ℕ) → Station → Bool
+    abbrev pub hears_hello : (sent : ℕ) → Station → Bool
     hears_hello sent st =
         same_option (slice_get st.links c.down) (Some c.link) && (nat_lt c.down (iface_count st.state) && (is_up st.state c.down
         && (not (is_own st.state c.address) && (not (hello_is_full st.state c.down c.address hello_holdtime)
@@ -127,7 +139,7 @@ module _ (d bound : ℕ) (started : ℕ → ℕ) where
 
   -- ---- who stands on a link
 
-  abbrev stands_test : (link : ℕ) → Member → Network → Bool
+  abbrev pub stands_test : (link : ℕ) → Member → Network → Bool
   stands_test link x n = option_map_or (λ (st : Station).
       is_up st.state x.iface && (same_option (slice_get st.links x.iface) (Some link)
       && ((address_among (st.state).configured x.iface == x.address) && ((my_priority st.state x.iface == x.priority)
@@ -136,7 +148,7 @@ module _ (d bound : ℕ) (started : ℕ → ℕ) where
       && (nat_lt (value_among (λ c. c.override_interval) (st.state).configured x.iface) (2 ^ 16)
       && nat_lt (value_among (λ c. c.priority) (st.state).configured x.iface) (2 ^ 32)))))))) (station_at n x.router) false
 
-  stands_so : (link : ℕ) (x : Member) (n : Network) → stands_test link x n ≡ true → Stands link x n
+  pub stands_so : (link : ℕ) (x : Member) (n : Network) → stands_test link x n ≡ true → Stands link x n
   stands_so link x n e =
       let f : Found Station _ (station_at n x.router) = found Station _ (station_at n x.router) e in
       then f.passes (λ up e. then e (λ linked e. then e (λ own e. then e (λ priority e. then e (λ host e. then e (λ delay e. then e
@@ -157,21 +169,21 @@ module _ (d bound : ℕ) (started : ℕ → ℕ) where
         priority = eqb-true _ _ priority;
       })))))))
 
-  abbrev greets_test : Member → Network → Bool
+  abbrev pub greets_test : Member → Network → Bool
   greets_test x n = option_map_or (λ (st : Station). option_map_or (λ (row : InterfaceRow).
       nat_le (row.hello_end + started x.router + 2 * d) bound) (row_at (st.state).interfaces (iface_key x.iface)) false) (station_at n x.router) false
 
-  greets_so : (x : Member) (n : Network) → greets_test x n ≡ true → GreetsBy d bound started x n
+  pub greets_so : (x : Member) (n : Network) → greets_test x n ≡ true → GreetsBy d bound started x n
   greets_so x n e =
       let f : Found Station _ (station_at n x.router) = found Station _ (station_at n x.router) e in
       let g : Found InterfaceRow _ (row_at ((f.it).state).interfaces (iface_key x.iface)) = found InterfaceRow _ _ f.passes in
       record { station = f.it; there = f.is; row = g.it; is = g.is; by = le_so _ _ g.passes }
 
-  abbrev forgets_test : List Member → Member → Network → Bool
+  abbrev pub forgets_test : List Member → Member → Network → Bool
   forgets_test members y n = option_map_or (λ (st : Station).
       list_all (is_known members y.iface (started y.router) bound) (st.state).neighbours) (station_at n y.router) false
 
-  forgets_so : (members : List Member) (y : Member) (n : Network) → forgets_test members y n ≡ true
+  pub forgets_so : (members : List Member) (y : Member) (n : Network) → forgets_test members y n ≡ true
       → ForgetsBy bound started members y n
   forgets_so members y n e =
       let f : Found Station _ (station_at n y.router) = found Station _ (station_at n y.router) e in
@@ -181,7 +193,7 @@ module _ (d bound : ℕ) (started : ℕ → ℕ) where
 
   module _ (link : ℕ) (members : List Member) where
     -- of the network at each time
-    abbrev greets_at : Network → Bool
+    abbrev pub greets_at : Network → Bool
     greets_at n = list_all (λ x. stands_test link x n) members
 
     -- of each move
@@ -189,17 +201,25 @@ module _ (d bound : ℕ) (started : ℕ → ℕ) where
     hellos_by n m next ms =
         list_all (λ x. list_all (λ y. or_else (x.address == y.address) (λ u. hello_test (between link x y) n m next ms)) members) members
 
-    abbrev alone_by : Network → Move → Bool
+    abbrev pub alone_by : Network → Move → Bool
     alone_by n m = list_all (λ y. happens_not y.router (λ s a. not (is_of_member members y.iface a)) n m) members
+
+    -- what comes to a router by a move is of one of them
+    pub alone_then : (n : Network) (m : Move) → alone_by n m ≡ true → (y : Member) → IsOne members y → (e : Event) (st : Station)
+        → event_of n m ≡ Some (y.router, e) → station_at n y.router ≡ Some st
+        → is_of_member members y.iface (done_as (happens st.state e)) ≡ true
+    alone_then n m passed y a e st ev at =
+        on_so (not_so y.router (λ s a. not (is_of_member members y.iface a)) n m
+        (one_of (λ y. happens_not y.router (λ s a. not (is_of_member members y.iface a)) n m) members y passed a) e st ev at)
 
     abbrev greets_by : Network → Move → Network → List Move → Bool
     greets_by n m next ms = hellos_by n m next ms && alone_by n m
 
     -- to begin with
-    abbrev apart_test : Bool
+    abbrev pub apart_test : Bool
     apart_test = list_all (λ x. list_all (λ y. not (x.address == y.address) || same_member x y) members) members
 
-    abbrev greets_first : Network → Bool
+    abbrev pub greets_first : Network → Bool
     greets_first n = list_all (λ x. greets_test x n && forgets_test members x n) members
 
     abbrev pub meet_test : Network → List Move → Bool
@@ -224,14 +244,9 @@ module _ (d bound : ℕ) (started : ℕ → ℕ) where
       alone_so : (y : Member) → IsOne members y → AreOfMembers members y n ms
       alone_so y a =
           moves_so greets_at greets_by (AreOfMembers members y) (λ n. tt)
-          (λ n m ms e f. (
-            λ ev st is at. on_so (not_so y.router (λ s a. not (is_of_member members y.iface a)) n m
-                (one_of (λ y. happens_not y.router (λ s a. not (is_of_member members y.iface a)) n m) members y
-                (second_so (hellos_by n m (moved n m).1 ms) (alone_by n m) e) a) ev st is at),
-            f,
-          )) ms n passed
+          (λ n m ms e f. (alone_then n m (second_so (hellos_by n m (moved n m).1 ms) (alone_by n m) e) y a, f)) ms n passed
 
-    apart_so : apart_test ≡ true → (x y : Member) → IsOne members x → IsOne members y → x.address ≡ y.address → x ≡ y
+    pub apart_so : apart_test ≡ true → (x y : Member) → IsOne members x → IsOne members y → x.address ≡ y.address → x ≡ y
     apart_so e x y a b same =
         member_so x y (if_so (x.address == y.address) (same_member x y)
         (one_of (λ y. not (x.address == y.address) || same_member x y) members y

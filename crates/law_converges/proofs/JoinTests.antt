@@ -1,28 +1,28 @@
 -- Whether a router's Joins come to its next hop in time, as AllComeToBeHeld asks: a test, and that where it passes they do.
-use Rattle.std.{proofs.{Common.{◌≡◌, ◌∙◌, ℕ, ◌+◌, ◌*◌, ◌==◌, ◌^◌, nat_le, nat_lt, not, ◌&&◌, Bool, true, false, List, [], inl, inr, length, Option, Some, None, refl, sym, subst, arith, eqb-true, lit≤}, lemmas.{List.Elements.All-nil}}, specs.{Cmp.{first_so, second_so}, Option.option_map_or, Prelude.slice_get}}
+use Rattle.std.{proofs.{Common.{◌≡◌, ◌∙◌, ℕ, ◌+◌, ◌*◌, ◌==◌, ◌≤◌, ◌^◌, nat_le, nat_lt, not, ◌&&◌, Bool, true, false, List, [], inl, inr, length, Option, Some, None, refl, sym, subst, arith, eqb-true, lit≤}, lemmas.{List.Elements.All-nil}}, specs.{Cmp.{first_so, second_so}, Option.option_map_or, Prelude.slice_get}}
 use Rattle.pim_ip.{specs.Ipv4.{header_text, is_multicast, is_unicast, pim_packet_text}, specs.Checksum.with_checksum}
 use Rattle.pim_wire.{specs.{Encoded.pim_text, JoinPrunes.join_prune_text}}
 use Rattle.pim_types.{specs.{declared.{fact.{JoinTimerRow.JoinTimerRow}, path.Hop.Hop}}}
 use Rattle.pim_model.{specs.{declared.accepted.Accepted.Accepted, Full.{is_full}, Neighbours.{is_neighbour, nbr}, Network.{Move, Network, Sent, Station, moved, station_at}, State.{State, iface_count, is_own, is_up, my_address}, Tables.{row_at, same_hop, same_option}, Unicast.rp_of}}
 use Rattle.law_streams.{specs.{InTimeJoins.{Always, AreInTime, AreThere, ComesBy, IsInTime, IsJoin, IsReady, IsRp, IsTaken, IsUnlost, Join, Pair, Source, Star, Wants, entry_of, frame_of, is_lost_at, is_suppressed, is_wanted, join_key, prunes_it, prunes_of, time_at, way_to}, Joins.{IsWritable, join_packet, join_value}}, proofs.Computed.{prunes_nothing}}
-use Rattle.law_converges.{specs.{JoinedWays.{IsDue, IsHop, longest_join}, Settles.{Joining, JoiningIsQuiet}}, proofs.{Tested.{Delivery, Found, by_so, comes_by, comes_so, delivery_so, each_found, else_so, found, happens_not, is_by, is_delivery, late_so, late_test, le_so, lt_so, moves_so, always_so, not_so, off_so, or_else, run_test, same_so, then, told_so, told_test}}}
+use Rattle.law_converges.{specs.{JoinedWays.{IsDue, IsHop, IsNear, longest_join}, Settles.{Joining, JoiningIsQuiet}}, proofs.{Tested.{Delivery, Found, by_so, comes_by, comes_so, delivery_so, each_found, else_so, found, happens_not, is_by, is_delivery, late_so, late_test, le_so, lt_so, moves_so, always_so, not_so, off_so, or_else, run_test, same_so, then, told_so, told_test}}}
 
-hop_so : (o : Option Hop) (h : Hop) → same_hop o (Some h) ≡ true → o ≡ Some h
+pub hop_so : (o : Option Hop) (h : Hop) → same_hop o (Some h) ≡ true → o ≡ Some h
 hop_so None h e = cc e
 hop_so (Some k) h e = then e (λ iface address. made (eqb-true _ _ iface) (eqb-true _ _ address))
   where
     made : k.iface.number ≡ h.iface.number → k.address.bits ≡ h.address.bits → Some k ≡ Some h
     made a b = grind arith
 
-join_is_pim : (x : Join) (g : ℕ) (c : Pair) (pruned : List ℕ) → slice_get (frame_of x g c pruned).bytes 9 ≡ Some 103
+pub join_is_pim : (x : Join) (g : ℕ) (c : Pair) (pruned : List ℕ) → slice_get (frame_of x g c pruned).bytes 9 ≡ Some 103
 unfolding join_packet pim_packet_text header_text with_checksum
 join_is_pim x g c pruned = refl
 
 -- a Join/Prune, by its version and type behind the header of 20 bytes
-abbrev is_join : Sent → Bool
+abbrev pub is_join : Sent → Bool
 is_join f = same_option (slice_get f.bytes 20) (Some 0x23)
 
-join_is_join : (x : Join) (g : ℕ) (c : Pair) (pruned : List ℕ) → is_join (frame_of x g c pruned) ≡ true
+pub join_is_join : (x : Join) (g : ℕ) (c : Pair) (pruned : List ℕ) → is_join (frame_of x g c pruned) ≡ true
 unfolding join_packet pim_packet_text header_text with_checksum join_prune_text pim_text
 join_is_join x g c pruned = refl
 
@@ -58,13 +58,13 @@ module _ (d bound : ℕ) (started : ℕ → ℕ) where
         && same_option (slice_get st.links c.down) (Some c.link))))))
 
     -- of the network at each time
-    abbrev there_at : Network → Bool
+    abbrev pub there_at : Network → Bool
     there_at n = option_map_or goes_up (station_at n c.lower) false && option_map_or hears_below (station_at n c.upper) false
 
-    abbrev wants_at : Network → Bool
+    abbrev pub wants_at : Network → Bool
     wants_at n = option_map_or (λ (st : Station). is_wanted x st.state g) (station_at n c.lower) false
 
-    there_so : (n : Network) → there_at n ≡ true → AreThere x g c n
+    pub there_so : (n : Network) → there_at n ≡ true → AreThere x g c n
     there_so n e =
         let f : Found Station goes_up (station_at n c.lower) = found Station goes_up (station_at n c.lower) (first_so _ _ e) in
         let h : Found Station hears_below (station_at n c.upper) = found Station hears_below (station_at n c.upper) (second_so _ _ e) in
@@ -90,12 +90,12 @@ module _ (d bound : ℕ) (started : ℕ → ℕ) where
           };
         }))))))))))
 
-    wants_so : (n : Network) → wants_at n ≡ true → Wants x g c.lower n
+    pub wants_so : (n : Network) → wants_at n ≡ true → Wants x g c.lower n
     wants_so n e =
         let f : Found Station _ (station_at n c.lower) = found Station _ (station_at n c.lower) e in
         record { station = f.it; there = f.is; wanted = f.passes }
 
-    abbrev join_at : Network → Bool
+    abbrev pub join_at : Network → Bool
     join_at n = there_at n && wants_at n
 
     abbrev has_room : Station → Bool
@@ -127,7 +127,7 @@ module _ (d bound : ℕ) (started : ℕ → ℕ) where
               (second_so (nat_le sent (time_at started c.upper st)) (has_room st) (each_found (takes_at sent) (station_at n c.upper) st e at));
         }
 
-    abbrev join_rows : State → Option JoinTimerRow
+    abbrev pub join_rows : State → Option JoinTimerRow
     join_rows s = row_at s.join_timers (join_key x 0 g)
 
     -- each Join has 54 bytes, so that it prunes nothing
@@ -177,12 +177,12 @@ module _ (d bound : ℕ) (started : ℕ → ℕ) where
               )
 
     -- to begin with
-    abbrev is_addressed : Bool
+    abbrev pub is_addressed : Bool
     is_addressed =
         not (c.lower == c.upper)
         && (is_unicast c.from && (nat_lt (c.hop).address.bits (2 ^ 32) && (is_multicast g && is_unicast (entry_of x).address.bits)))
 
-    writable_so : is_addressed ≡ true → IsWritable c.from (c.hop).address.bits g (entry_of x) (prunes_of [])
+    pub writable_so : is_addressed ≡ true → IsWritable c.from (c.hop).address.bits g (entry_of x) (prunes_of [])
     writable_so e =
         then e (λ apart e. then e (λ from e. then e (λ fits e. then e (λ group of. record {
           from_host = from;
@@ -198,7 +198,7 @@ module _ (d bound : ℕ) (started : ℕ → ℕ) where
     in_time_so p n ms addressed passed =
         moves_so p join_by (AreInTime x g d started c) (λ n. tt) (λ n m ms e f. (join_so (writable_so addressed) n m ms e, f)) ms n passed
 
-    abbrev join_due : Network → Bool
+    abbrev pub join_due : Network → Bool
     join_due n =
         option_map_or (λ (st : Station). option_map_or (λ (row : JoinTimerRow). nat_le (row.end + started c.lower + 2 * d) bound)
         (join_rows st.state) false) (station_at n c.lower) false
@@ -229,29 +229,54 @@ module _ (d bound : ℕ) (started : ℕ → ℕ) where
           };
         }))
 
+    -- what is known of it but what is delivered
+    pub record IsDueBy (n : Network) : Type 0 where
+      pub station : Station
+      pub is : station_at n c.lower ≡ Some station
+      pub row : JoinTimerRow
+      pub timer : row_at (station.state).join_timers (join_key x 0 g) ≡ Some row
+      pub by : row.end + started c.lower + 2 * d ≤ bound
+
+    abbrev pub quiet_test : Network → List Move → Bool
+    quiet_test n ms = join_due n && run_test join_at (λ n m next ms. true) n ms
+
+    pub due_of : (n : Network) (ms : List Move) → quiet_test n ms ≡ true → IsDueBy n
+    due_of n ms e =
+        let f : Found Station _ (station_at n c.lower) = found Station _ (station_at n c.lower) (first_so (join_due n) _ e) in
+        let h : Found JoinTimerRow _ (join_rows (f.it).state) = found JoinTimerRow _ (join_rows (f.it).state) f.passes in
+        record { station = f.it; is = f.is; row = h.it; timer = h.is; by = le_so _ _ h.passes }
+
+    pub there_of : (n : Network) (ms : List Move) → quiet_test n ms ≡ true → Always (AreThere x g c) n ms
+    there_of n ms e =
+        always_so join_at (λ n m next ms. true) (AreThere x g c) (λ n e. there_so n (first_so _ _ e)) ms n (second_so (join_due n) _ e)
+
+    pub wants_of : (n : Network) (ms : List Move) → quiet_test n ms ≡ true → Always (Wants x g c.lower) n ms
+    wants_of n ms e =
+        always_so join_at (λ n m next ms. true) (Wants x g c.lower) (λ n e. wants_so n (second_so (there_at n) _ e)) ms n (second_so (join_due n) _ e)
+
     -- ---- of a way
 
-    abbrev hop_at : Network → Bool
+    abbrev pub hop_at : Network → Bool
     hop_at n =
         there_at n && option_map_or (λ (st : Station). not (is_lost_at x st.state g c.down)) (station_at n c.upper) false
 
-    unlost_so : (n : Network) → hop_at n ≡ true → IsUnlost x g c n
+    pub unlost_so : (n : Network) → hop_at n ≡ true → IsUnlost x g c n
     unlost_so n e =
         let f : Found Station _ (station_at n c.upper) = found Station _ (station_at n c.upper) (second_so (there_at n) _ e) in
         record { station = f.it; there = f.is; unlost = off_so _ f.passes }
 
     -- each Join timer of what is joined that runs at the lower one
-    abbrev timer_test : (State → JoinTimerRow → Bool) → Network → Bool
+    abbrev pub timer_test : (State → JoinTimerRow → Bool) → Network → Bool
     timer_test t n =
         option_map_or (λ (st : Station). option_map_or (t st.state) (join_rows st.state) true) (station_at n c.lower) true
 
-    timer_so : (t : State → JoinTimerRow → Bool) (n : Network) → timer_test t n ≡ true → (st : Station) (row : JoinTimerRow)
+    pub timer_so : (t : State → JoinTimerRow → Bool) (n : Network) → timer_test t n ≡ true → (st : Station) (row : JoinTimerRow)
         → station_at n c.lower ≡ Some st → join_rows st.state ≡ Some row → t st.state row ≡ true
     timer_so t n e st row at is =
         each_found (t st.state) (join_rows st.state) row
         (each_found (λ (st : Station). option_map_or (t st.state) (join_rows st.state) true) (station_at n c.lower) st e at) is
 
-    abbrev is_near : State → JoinTimerRow → Bool
+    abbrev pub is_near : State → JoinTimerRow → Bool
     is_near s row = nat_le row.end (s.present + longest_join)
 
     abbrev pub hop_test : Network → List Move → Bool
@@ -287,3 +312,16 @@ module _ (d bound : ℕ) (started : ℕ → ℕ) where
       early = by_so started c.lower bound n (first_so (is_by started c.lower bound n) _ e);
       next = λ st row at is. le_so _ _ (timer_so is_due n (first_so (timer_test is_due n) _ (second_so (is_by started c.lower bound n) _ e)) st row at is);
     }
+
+    -- so of one of its next hops
+    abbrev pub near_test : Network → Bool
+    near_test n = timer_test is_near n
+
+    pub near_of : (n : Network) → near_test n ≡ true → IsNear x g c.lower n
+    near_of n e = λ st row at is. le_so _ _ (timer_so is_near n e st row at is)
+
+    abbrev pub unlost_test : Network → List Move → Bool
+    unlost_test n ms = run_test hop_at (λ n m next ms. true) n ms
+
+    pub unlost_of : (n : Network) (ms : List Move) → unlost_test n ms ≡ true → Always (IsUnlost x g c) n ms
+    unlost_of n ms e = always_so hop_at (λ n m next ms. true) (IsUnlost x g c) unlost_so ms n e

@@ -41,12 +41,12 @@ module _ (d bound : ℕ) (started : ℕ → ℕ) where
   -- ---- queries
 
   module _ (t : Settings) (c : Adjacent) where
-    abbrev asks_test : Network → Bool
+    abbrev pub asks_test : Network → Bool
     asks_test n = option_map_or (λ (st : Station). same_settings (st.state).settings t
         && (is_some (querier_on st.state c.iface) && (same_option (slice_get st.links c.iface) (Some c.link)
         && ((address_among (st.state).configured c.iface == c.address) && is_unicast c.address)))) (station_at n c.lower) false
 
-    asks_so : (n : Network) → asks_test n ≡ true → Asks t c n
+    pub asks_so : (n : Network) → asks_test n ≡ true → Asks t c n
     asks_so n e =
         let f : Found Station _ (station_at n c.lower) = found Station _ (station_at n c.lower) e in
         then f.passes (λ settings e. then e (λ row e. then e (λ linked e. then e (λ own host. go f.it f.is settings
@@ -88,7 +88,7 @@ module _ (d bound : ℕ) (started : ℕ → ℕ) where
     query_end row = role_end row.role
 
     module _ (hold : ℕ) where
-      abbrev hears_query : (sent : ℕ) → Station → Bool
+      abbrev pub hears_query : (sent : ℕ) → Station → Bool
       hears_query sent st =
           same_option (slice_get st.links c.down) (Some c.link) && (nat_lt c.down (iface_count st.state) && (is_up st.state c.down
           && (not (is_own st.state c.address) && (is_lower_querier st.state c.down c.address
@@ -124,10 +124,10 @@ module _ (d bound : ℕ) (started : ℕ → ℕ) where
       cuts_role s i (QuerierRole.Querier next left) a = false
       cuts_role s i (QuerierRole.NonQuerier until) a = cuts s i until a
 
-      abbrev cuts_held : State → (i : ℕ) → Option Accepted → Bool
+      abbrev pub cuts_held : State → (i : ℕ) → Option Accepted → Bool
       cuts_held s i a = option_map_or (λ (row : QuerierRow). cuts_role s i row.role a) (querier_on s i) false
 
-      held_lasts : (s : State) (i end : ℕ) (a : Option Accepted) → cuts_held s i a ≡ false → HoldsBack s i end → cuts s i end a ≡ false
+      pub held_lasts : (s : State) (i end : ℕ) (a : Option Accepted) → cuts_held s i a ≡ false → HoldsBack s i end → cuts s i end a ≡ false
       held_lasts s i end a e f =
           no_sooner s i end f.until f.lasts a
           (subst (λ role. cuts_role s i role a ≡ false) f.role

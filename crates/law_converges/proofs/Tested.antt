@@ -1,10 +1,10 @@
 -- Tests of a network and of moves, by which the premises of a law are computed.
 use Rattle.std.{proofs.{Common.{◌≡◌, ℕ, zero, suc, ◌+◌, ◌<◌, ◌≤◌, ◌==◌, nat_le, nat_lt, not, ◌&&◌, ◌||◌, Bool, true, false, List, [], ◌∷◌, drop, length, Option, Some, None, Ok, refl, sym, ap, subst, arith, eqb-true, eq-eqb}, lemmas.Bool.Decides.nat_tests}, specs.{Cmp.{first_so, second_so}, List.list_all, Option.option_map_or, Prelude.slice_get}}
 use Rattle.pim_types.{specs.declared.{config.Config.Config, event.{Event.Event, EventKind.EventKind}}}
-use Rattle.pim_model.{specs.{declared.accepted.Accepted.Accepted, Cause.done_as, Limits.config_test, Network.{At, Deliver, DeliverUnicast, Move, Network, Sent, Station, event_of, frame_at, moved, station_at}, State.{State, opening}, Step.state_after, Tables.same_option}}
+use Rattle.pim_model.{specs.{declared.accepted.Accepted.Accepted, Cause.done_as, Limits.config_test, Network.{At, Deliver, DeliverUnicast, Move, Network, Sent, Station, event_of, frame_at, moved, network_ran, station_at}, State.{State, opening}, Step.state_after, Tables.same_option}}
 use Rattle.law_events.{proofs.Rest.{opening_is_at_rest, run_is_at_rest}}
 use Rattle.law_streams.{specs.{Copies.happens, InTimeJoins.{Always, IsBy, IsReady, time_at}}, proofs.Timed.run_is_timed}
-use Rattle.law_converges.{specs.JoinedWays.AreTogether}
+use Rattle.law_converges.{specs.{JoinedWays.AreTogether, Past.{ArePast, HoldsPast}}}
 
 -- ---- of options and numbers
 
@@ -311,6 +311,23 @@ module _ (lag : ℕ) (started : ℕ → ℕ) (alike : (q r : ℕ) → started q 
 
   pub all_together : (n : Network) (ms : List Move) → together_test n ms ≡ true → Always (AreTogether lag started) n ms
   all_together n ms e = always_so together_at (λ n m next ms. true) (AreTogether lag started) together_so ms n e
+
+pub ends_past : (started : ℕ → ℕ) (bound : ℕ) (P : Network → Type 0) (m : Move) (ms : List Move) (n : Network) → HoldsPast started bound P n (m ∷ ms)
+    → ArePast started bound (network_ran n (m ∷ ms)).1 → P (network_ran n (m ∷ ms)).1
+unfolding network_ran
+ends_past started bound P m [] n f past = f.0 past
+ends_past started bound P m (k ∷ ms) n f past = ends_past started bound P k ms (moved n m).1 f.1 past
+
+module _ (started : ℕ → ℕ) (alike : (q r : ℕ) → started q ≡ started r) where
+  -- the time at each station is past a bound
+  abbrev pub past_test : ℕ → Network → Bool
+  past_test bound n = list_all (λ (st : Station). nat_lt bound (time_at started 0 st)) n.stations
+
+  pub past_so : (bound : ℕ) (n : Network) → past_test bound n ≡ true → ArePast started bound n
+  unfolding station_at
+  past_so bound n e r st at =
+      subst (λ (t : ℕ). bound < (st.state).present + t) (alike 0 r)
+      (lt_so _ _ (each_passes (λ (st : Station). nat_lt bound (time_at started 0 st)) n.stations e r st at))
 
 -- ---- routers that are ready
 

@@ -1,7 +1,7 @@
 -- What each law of a link asks besides that what is sent there comes to all in order and soon: that a router can hear what comes,
 -- and that nothing ends sooner what it has heard.
 use Rattle.std.{specs.Prelude.{List, Some, false, length, slice_get, true, ℕ, ◌*◌, ◌+◌, ◌<◌, ◌==◌, ◌≡◌, ◌≤◌}}
-use Rattle.pim_ip.{specs.Addr.addr}
+use Rattle.pim_ip.{specs.{Addr.addr, Ipv4.is_unicast}}
 use Rattle.pim_types.{specs.declared.{config.Settings.Settings, event.Event.Event, fact.AssertMetric.AssertMetric}}
 use Rattle.pim_wire.{specs.Hellos.hello_holdtime}
 use Rattle.pim_model.{specs.{declared.accepted.Accepted.Accepted, Cause.done_as, Full.{hello_is_full, is_full}, Network.{Deliver, Move, Network, Station, event_of, frame_at, moved, station_at}, Querier.is_lower_querier, Tables.hop_at}}
@@ -86,12 +86,13 @@ pub record SeesJoin (x : Join) (g : ℕ) (c : Pair) (n : Network) (m : Move) : T
 
 pub record JoinKeeps (x : Join) (g : ℕ) (t : Traffic) (c : Pair) (n : Network) (m : Move) : Type 0 where
   -- a Join of the lower one prunes sources that are addresses of hosts
-  pub writable : (e : Event) (number : ℕ) (pruned : List ℕ) → event_of n m ≡ Some (c.lower, e) → length n.frames < number
+  pub writable : (e : Event) (st : Station) (number : ℕ) (pruned : List ℕ) → event_of n m ≡ Some (c.lower, e)
+      → station_at (moved n m).1 c.lower ≡ Some st → length n.frames < number
       → frame_at (moved n m).1 number ≡ Some (frame_of x g c pruned)
       → IsWritable c.from (c.hop).address.bits g (entry_of x) (prunes_of pruned)
   -- the upper one can hear whoever joins over it, has room, and joins nothing over itself
-  pub hears : (number draw from : ℕ) (pruned : List ℕ) (st : Station) → m ≡ Deliver c.upper c.down number draw
-      → frame_at n number ≡ Some (frame_from x g c from pruned) → station_at n c.upper ≡ Some st → Hears st.state c.down from
+  pub hears : (number draw from : ℕ) (pruned : List ℕ) (st : Station) → is_unicast from ≡ true
+      → m ≡ Deliver c.upper c.down number draw → frame_at n number ≡ Some (frame_from x g c from pruned) → station_at n c.upper ≡ Some st → Hears st.state c.down from
   pub room : (number draw from : ℕ) (pruned : List ℕ) (st : Station) → m ≡ Deliver c.upper c.down number draw
       → frame_at n number ≡ Some (frame_from x g c from pruned) → station_at n c.upper ≡ Some st
       → is_full st.state (Accepted.JoinPruneToMe (record { number = c.down })

@@ -5,8 +5,8 @@ use Rattle.pim_types.{specs.declared.event.Event.Event}
 use Rattle.pim_wire.{specs.{Encoded.pim_text, Hellos.{holdtime_option, option_text}}}
 use Rattle.pim_model.{specs.{Network.{At, Deliver, Move, Network, network_ran}, State.opening, Step.state_after}}
 use Rattle.law_streams.{specs.InTimeJoins.{Always, IsHeld, Wants}}
-use Rattle.pim_runs.{specs.{InTime.{joined, pair, started}, ServedChain.{asked_group, first, report, root, second, station, third}, WayInTime.upper_pair, Words.{address, advance, frame, up}}}
-use Rattle.law_converges.{specs.JoinedWays.{AreHops, AreTogether, IsDue}}
+use Rattle.pim_runs.{specs.{InTime.{joined, pair, started}, ServedChain.{asked_group, first, report, root, second, sender, station, third}, WayInTime.upper_pair, Words.{address, advance, frame, up}}}
+use Rattle.law_converges.{specs.{JoinedWays.{AreHops, AreTogether, IsDue}, PassedOnce.{IsOnTree, IsPassedOnce}}}
 
 -- a Hello whose holdtime never expires
 abbrev pub lasting_hello : ℕ → List ℕ
@@ -65,3 +65,8 @@ ChainComesInTime =
 abbrev pub ChainComesToBeJoined : Type 0
 ChainComesToBeJoined =
     IsHeld joined asked_group pair (network_ran unjoined joining).1 × IsHeld joined asked_group upper_pair (network_ran unjoined joining).1
+
+-- So each packet of the sender that comes to the second router from the RP's side leaves on the first one's link, once.
+abbrev pub ChainPassesOnce : Type 0
+ChainPassesOnce =
+    Always (IsOnTree asked_group sender 1 pair) unjoined joining × IsPassedOnce asked_group sender 1 pair (network_ran unjoined joining).1

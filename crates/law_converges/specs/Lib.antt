@@ -17,14 +17,14 @@ pub mod LinkAssertsRun
 pub mod LinkJoins
 pub mod LinkJoinsRun
 pub mod JoinedWays
+pub mod PassedOnce
 pub mod JoinedWaysRun
 pub mod LinkRpt
 pub mod LinkRptOrder
-pub mod LinkRptRun
 pub mod Past
 pub mod Carried
 pub mod CarriedLinks
 pub mod CarriedPrunes
 pub mod Settles
 pub mod CarriedNetwork
-pub mod SettlesRun
+pub mod CarriedNetworkRun

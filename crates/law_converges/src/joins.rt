@@ -2,6 +2,7 @@
 
 ghost use Rattle.law_converges.specs.JoinedWays.{WayComesToBeJoined};
 ghost use Rattle.law_converges.specs.LinkJoins.{AllComeToBeHeld};
+ghost use Rattle.law_converges.specs.PassedOnce.{HeldIsPassedOnce};
 
 /// Of any number of routers, of one link or of several, that each want the group, or the source, and join it over their next
 /// hops, each next hop holds it from a bound on, whatever it held before, and without end: after each of any moves by which
@@ -21,4 +22,14 @@ pub fn all_come_to_be_held()
 /// another router's Join may hold a Join back.
 pub fn way_comes_to_be_joined()
     ensures { WayComesToBeJoined }
+{}
+
+/// A next hop that comes to hold a group from a bound on, as `AllComeToBeHeld`, `WayComesToBeJoined` and `NetworkSettles` say,
+/// passes on from then on each packet of a source that comes down the group's tree to it: the copy leaves on the link of the
+/// router that joins over it, and on no interface does more than one copy of an event leave. The packet has a TTL above 1, and
+/// comes on an interface that is the way to the RP, and where SPTbit is set to the source too. On the link neither the assert
+/// of the group nor that of the source is lost, and no Prune of the source has taken effect; the router has room for the
+/// source, and the source isn't the router itself. It says nothing of what comes on the source's own tree, or in Registers.
+pub fn held_is_passed_once()
+    ensures { HeldIsPassedOnce }
 {}

@@ -1,5 +1,6 @@
 //! Networks that meet the premises of the laws, computed by the kernel.
-ghost use Rattle.law_converges.specs.JoinedWaysRun.{ChainComesInTime, ChainComesToBeJoined};
+ghost use Rattle.law_converges.specs.CarriedNetworkRun.{OverrideComesInOrder, PlanIsQuiet, PlanSettles, PruneHasNoEffect};
+ghost use Rattle.law_converges.specs.JoinedWaysRun.{ChainComesInTime, ChainComesToBeJoined, ChainPassesOnce};
 ghost use Rattle.law_converges.specs.LeftGroupRun.{SilentGroupEnds};
 ghost use Rattle.law_converges.specs.LinkAssertsRun.{FartherLoses, NearerAnswers};
 ghost use Rattle.law_converges.specs.LinkDrRun.{BothGreet, OneComesToBeDr};
@@ -7,10 +8,8 @@ ghost use Rattle.law_converges.specs.LinkJoinsRun.{BothComeToBeHeld, BothJoinInT
 ghost use Rattle.law_converges.specs.LinkLosersRun.{FartherComesToLose, FartherStaysLoser, NearerAssertsInTime};
 ghost use Rattle.law_converges.specs.LinkMembersRun.{HostAnswersInTime, HostComesToBeKnown, HostStaysKnown};
 ghost use Rattle.law_converges.specs.LinkQuerierRun.{OneComesToQuery, QueriesComeInTime};
-ghost use Rattle.law_converges.specs.LinkRptRun.{OverrideComesInOrder, PruneHasNoEffect};
 ghost use Rattle.law_converges.specs.OneSenderRun.{FartherSendsNone};
 ghost use Rattle.law_converges.specs.NextHopRun.{OtherTakesOver, RouterTurns};
-ghost use Rattle.law_converges.specs.SettlesRun.{TwoLansAreQuiet, TwoLansSettle};
 
 /// The first router of the chain turns from one next hop to another.
 pub fn router_turns()
@@ -92,6 +91,11 @@ pub fn chain_comes_to_be_joined()
     ensures { ChainComesToBeJoined }
 {}
 
+/// So what comes to the first next hop leaves on the link of the router in front of it, once.
+pub fn chain_passes_once()
+    ensures { ChainPassesOnce }
+{}
+
 /// The Join(S,G,rpt) of one router of a link comes to the RP there after another's Prune, and soon.
 pub fn override_comes_in_order()
     ensures { OverrideComesInOrder }
@@ -122,12 +126,14 @@ pub fn farther_sends_none()
     ensures { FartherSendsNone }
 {}
 
-/// On two LANs Hellos, queries, a host's answers and a Join come in time.
-pub fn two_lans_are_quiet()
-    ensures { TwoLansAreQuiet }
+/// On two LANs all that is sent comes to all in order, within 100 ms, while one of two routers wins an assert, both join over
+/// the RP, and one of them prunes a source that the other overrides.
+pub fn plan_is_quiet()
+    ensures { PlanIsQuiet }
 {}
 
-/// So at the end each has one DR and one querier, its routers know its host's group, and the RP holds what is joined.
-pub fn two_lans_settle()
-    ensures { TwoLansSettle }
+/// So at the end each LAN has one DR and one querier, the host's group is known, the RP holds what is joined, none but the
+/// winner sends what the assert is about, and the Prune has had no effect.
+pub fn plan_settles()
+    ensures { PlanSettles }
 {}

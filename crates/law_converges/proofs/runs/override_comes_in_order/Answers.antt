@@ -1,4 +1,4 @@
-use Rattle.law_converges.{proofs.LinkRptRun.override_comes_in_order}
+use Rattle.law_converges.{proofs.CarriedNetworkRun.override_comes_in_order}
 use Rattle.law_converges.proofs.runs.override_comes_in_order.Goals as goal
 
 pub returns : goal.returns

@@ -1,4 +1,4 @@
-use Rattle.law_converges.{proofs.LinkRptRun.prune_has_no_effect}
+use Rattle.law_converges.{proofs.CarriedNetworkRun.prune_has_no_effect}
 use Rattle.law_converges.proofs.runs.prune_has_no_effect.Goals as goal
 
 pub returns : goal.returns
