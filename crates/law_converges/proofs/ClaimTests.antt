@@ -1,12 +1,12 @@
 -- Whether a router of a link wins an assert, and another gives way to it and stays the loser: tests, and that where they pass it is so.
-use Rattle.std.{proofs.{Common.{◌≡◌, ◌∙◌, ℕ, ◌+◌, ◌*◌, ◌≤◌, ◌==◌, nat_le, nat_lt, not, ◌&&◌, ◌||◌, Bool, true, false, List, Option, Some, None, refl, subst, arith, eqb-true, eq-eqb}, lemmas.{Bool.Decides.nat_tests}}, specs.{Cmp.{first_so, second_so}, Option.option_map_or, Prelude.slice_get}}
+use Rattle.std.{proofs.{Common.{◌≡◌, ℕ, ◌+◌, ◌*◌, ◌≤◌, ◌==◌, nat_le, nat_lt, not, ◌&&◌, ◌||◌, Bool, true, false, List, Option, Some, None, refl, arith, eqb-true, eq-eqb}, lemmas.{Bool.Decides.nat_tests}}, specs.{Cmp.{first_so, second_so}, Option.option_map_or, Prelude.slice_get}}
 use Rattle.pim_ip.{specs.{Addr.addr, Checksum.with_checksum, Ipv4.{header_text, pim_packet_text}}}
 use Rattle.pim_types.{specs.{Keys.same_key, declared.{event.Event.Event, fact.{AssertMetric.AssertMetric, AssertRow.AssertRow, Key.Key}}}}
 use Rattle.pim_wire.{specs.{Asserts.assert_text, Encoded.pim_text}}
-use Rattle.pim_model.{specs.{declared.accepted.Accepted.Accepted, Asserts.{asserted_metric, theirs_of}, Cause.done_as, Full.is_full, Neighbours.is_neighbour, Network.{Move, Network, Sent, Station, event_of, frame_at, moved, station_at}, Rows.same_metric, Sets.{is_better, is_loser, is_winner, spt_metric}, State.{State, iface_count, is_own, is_up, my_address}, Tables.{row_at, same_option}, Unicast.{is_rpf_interface, is_rpf_interface_rp}}}
+use Rattle.pim_model.{specs.{declared.accepted.Accepted.Accepted, Asserts.{asserted_metric, theirs_of}, Cause.done_as, Full.is_full, Neighbours.is_neighbour, Network.{Move, Network, Sent, Station, event_of, frame_at, station_at}, Rows.same_metric, Sets.{is_better, is_loser, is_winner, spt_metric}, State.{State, iface_count, is_own, is_up, my_address}, Tables.{row_at, same_option}, Unicast.{is_rpf_interface, is_rpf_interface_rp}}}
 use Rattle.law_events.{proofs.SameRows.metrics}
 use Rattle.law_streams.{specs.{Adjacent.Adjacent, Copies.happens, InTimeJoins.Always}}
-use Rattle.law_converges.{specs.{Carried.EachMove, CarriedLinks.{GivesWay, LoserKeeps, Yields}, LinkAsserts.{CanGiveWay, IsSayable, assert_packet, gives_way, is_about, key_about, lost_to, said}, LinkLosers.{AssertsBy, KeepsLoss, LosesUntil, Wins, ends_loss, loser_key, reads_assert, survives, winner_key, winner_of}, OneSender.IsOffTree}, proofs.{KeepsTests.{delivered_so, delivery_test}, Tested.{Found, always_so, each_found, else_so, found, le_so, lt_so, moves_so, off_so, or_else, run_test, same_so, then}}}
+use Rattle.law_converges.{specs.{Carried.EachMove, CarriedLinks.{GivesWay, LoserKeeps, Yields}, LinkAsserts.{IsSayable, assert_packet, gives_way, is_about, key_about, lost_to, said}, LinkLosers.{AssertsBy, KeepsLoss, LosesUntil, Wins, ends_loss, loser_key, reads_assert, survives, winner_key, winner_of}, OneSender.IsOffTree}, proofs.{KeepsTests.{delivered_so, delivery_test}, Tested.{Found, always_so, each_found, else_so, found, le_so, lt_so, moves_so, off_so, or_else, run_test, same_so, then}}}
 
 -- an Assert, by its version and type behind the header of 20 bytes
 abbrev is_assert : Sent → Bool

@@ -1,11 +1,11 @@
 -- Whether the routers of a link hear what comes, and nothing ends that sooner, as CarriedNetworkSettles asks: tests, and that where
 -- they pass it is so.
-use Rattle.std.{proofs.{Common.{◌≡◌, ◌∙◌, ℕ, zero, suc, ◌+◌, ◌*◌, ◌<◌, ◌≤◌, ◌==◌, ◌^◌, nat_le, nat_lt, not, ◌&&◌, Bool, true, false, List, [], ◌∷◌, length, Option, Some, refl, sym, ap, subst, arith, eqb-true, eq-eqb}, lemmas.{Bool.Decides.nat_tests}}, specs.{Cmp.{first_so, second_so}, List.list_all, Option.option_map_or, Prelude.slice_get}}
+use Rattle.std.{proofs.{Common.{◌≡◌, ◌∙◌, ℕ, zero, suc, ◌+◌, ◌*◌, ◌<◌, ◌==◌, ◌^◌, nat_lt, not, ◌&&◌, Bool, true, false, List, [], ◌∷◌, length, Option, Some, refl, sym, ap, subst, arith, eqb-true, eq-eqb}, lemmas.{Bool.Decides.nat_tests}}, specs.{Cmp.{first_so, second_so}, List.list_all, Option.option_map_or}}
 use Rattle.byteorder.{specs.Numbers.big_number-reads_back}
 use Rattle.pim_ip.{specs.{Checksum.with_checksum, Ipv4.{header_text, is_unicast, pim_packet_text, source_address_of}}}
-use Rattle.pim_types.{specs.declared.{config.Settings.Settings, event.Event.Event, fact.JoinTimerRow.JoinTimerRow}}
-use Rattle.pim_model.{specs.{declared.accepted.Accepted.Accepted, Cause.done_as, Full.is_full, Neighbours.is_neighbour, Network.{At, Deliver, DeliverUnicast, Move, Network, Sent, Station, event_of, frame_at, moved, station_at}, State.{State, iface_count, is_own, is_up}, Tables.{row_at, same_option}}}
-use Rattle.law_streams.{specs.{Adjacent.{Adjacent, begins_or_ends}, Copies.happens, InTimeJoins.{Always, AreThere, IsJoin, IsReady, IsUnlost, Join, Pair, Wants, entry_of, frame_of, is_suppressed, join_key, prunes_it, prunes_of}, Joins.{Hears, IsWritable, join_packet, join_value}, Shared.frame_from}, proofs.Computed.prunes_nothing}
+use Rattle.pim_types.{specs.declared.{config.Settings.Settings, event.Event.Event}}
+use Rattle.pim_model.{specs.{declared.accepted.Accepted.Accepted, Cause.done_as, Full.is_full, Neighbours.is_neighbour, Network.{At, Deliver, DeliverUnicast, Move, Network, Sent, Station, event_of, frame_at, moved, station_at}, State.{State, iface_count, is_own, is_up}, Tables.{same_option}}}
+use Rattle.law_streams.{specs.{Adjacent.{Adjacent, begins_or_ends}, Copies.happens, InTimeJoins.{IsReady, Join, Pair, entry_of, frame_of, is_suppressed, prunes_it, prunes_of}, Joins.{Hears, IsWritable, join_packet, join_value}, Shared.frame_from}, proofs.Computed.prunes_nothing}
 use Rattle.law_converges.{specs.{Carried.{EachMove, Traffic}, CarriedLinks.{Ask, HearsHello, HearsQuery, HelloKeeps, JoinKeeps, Meet, QueryKeeps, SeesJoin}, LinkDr.{AreOfMembers, IsOne, Member, Stands, between}, LinkQuerier.{Asks, KeepsLead, interval_of, takes_lead}, Settles.Joining}, proofs.{HelloTests.{alone_by, alone_then, apart_so, apart_test, forgets_so, forgets_test, greets_first, greets_at, greets_so, greets_test, hears_hello, known_lasts, one_of, shortens_known, stands_so, stands_test}, JoinTests.{is_join, join_is_join, join_is_pim}, QueryTests.{asks_so, asks_test, cuts_held, hears_query, held_lasts, leads_so, leads_test}, Tested.{Found, after_so, always_so, each_after, each_found, else_so, found, happens_not, is_of_protocol, le_so, lt_so, moves_so, not_so, of_protocol, off_so, or_else, run_test, same_so, then, told_so, told_test}}}
 
 -- ---- a delivery

@@ -1,10 +1,9 @@
 -- What a next hop holds it passes on, once.
-use Rattle.std.{proofs.Common.{◌≡◌, ℕ, ◌==◌, false, List, [], ◌∷◌, Some, refl, sym, subst}, specs.List.Contains}
-use Rattle.pim_ip.{specs.Ipv4.{Packet, copy_text}}
-use Rattle.pim_types.{specs.{Keys.star_key, declared.event.Event.Event}}
-use Rattle.pim_model.{specs.{Network.{Move, Network, Station, moved, station_at}, Tables.row_at, Writing.on_link}}
+use Rattle.std.{proofs.Common.{◌≡◌, ℕ, List, [], ◌∷◌, Some, sym, subst}}
+use Rattle.pim_types.{specs.{Keys.star_key}}
+use Rattle.pim_model.{specs.{Network.{Move, Network, Station, moved, station_at}, Tables.row_at}}
 use Rattle.law_events.{specs.Rest.IsAtRest}
-use Rattle.law_streams.{specs.{Copies.copies_at, InTimeJoins.{Always, IsHeld, IsReady, Pair, Star}, Passing.{Passes, Receiver, Tree}, Served.Came}, proofs.{Copies.never_twice, Pairs.{ready_then, same_station}, Serving.passing_serves}}
+use Rattle.law_streams.{specs.{InTimeJoins.{Always, IsHeld, IsReady, Pair, Star}, Passing.{Passes, Receiver, Tree}}, proofs.{Copies.never_twice, Pairs.{ready_then, same_station}, Serving.passing_serves}}
 use Rattle.law_converges.{specs.{PassedOnce.{HeldIsPassedOnce, IsOnTree, IsPassedOnce}, Past.HoldsPast}, proofs.LinkJoins.first_of}
 
 module _ (rp g src up : ℕ) (c : Pair) where

@@ -1,11 +1,11 @@
 -- Whether Prunes(S,G,rpt) and the Joins that override them are taken and seen as they are to be: tests, and that where they pass it is so.
-use Rattle.std.{proofs.{Common.{◌≡◌, ◌∙◌, ℕ, zero, suc, ◌+◌, ◌-◌, ◌<◌, ◌≤◌, ◌==◌, nat_le, nat_lt, not, ◌&&◌, Bool, true, false, List, [], length, Option, Some, None, refl, sym, ap, subst, arith, eqb-true, eq-eqb}}, specs.{Cmp.{first_so, second_so}, Option.option_map_or, Prelude.slice_get}}
+use Rattle.std.{proofs.{Common.{◌≡◌, ◌∙◌, ℕ, zero, suc, ◌+◌, ◌-◌, ◌==◌, nat_le, nat_lt, not, ◌&&◌, Bool, true, false, List, [], length, Option, Some, None, refl, ap, subst, arith, eqb-true, eq-eqb}}, specs.{Cmp.{first_so, second_so}, Option.option_map_or, Prelude.slice_get}}
 use Rattle.pim_ip.{specs.{Checksum.with_checksum, Ipv4.{header_text, is_unicast, pim_packet_text, source_address_of}}}
-use Rattle.pim_types.{specs.{Keys.rpt_key, declared.{event.Event.Event, path.Hop.Hop, upstream.TreeState.TreeState}}}
-use Rattle.pim_wire.{specs.{Encoded.pim_text, JoinPrunes.join_prune_text, Values.JoinPrune, declared.join_prune.EntryKind.EntryKind}}
-use Rattle.pim_model.{specs.{declared.accepted.Accepted.Accepted, Cause.done_as, Desires.{rpf_rpt, tree_state}, Firing.{fire_instant, fire_once}, Full.is_full, Messages.entry, Neighbours.{effective_override_interval, is_neighbour, neighbour_count}, Network.{At, Deliver, DeliverUnicast, Move, Network, Sent, Station, event_of, frame_at, moved, station_at}, State.{State, iface_count, is_own, is_up, my_address}, Step.step, Tables.{same_hop, same_option}, Timers.{Ending, next_due, timers}}}
+use Rattle.pim_types.{specs.{declared.{event.Event.Event, upstream.TreeState.TreeState}}}
+use Rattle.pim_wire.{specs.{Encoded.pim_text, JoinPrunes.join_prune_text, declared.join_prune.EntryKind.EntryKind}}
+use Rattle.pim_model.{specs.{declared.accepted.Accepted.Accepted, Cause.done_as, Desires.{rpf_rpt, tree_state}, Firing.{fire_instant, fire_once}, Full.is_full, Messages.entry, Neighbours.{effective_override_interval, is_neighbour, neighbour_count}, Network.{At, Deliver, DeliverUnicast, Move, Network, Sent, Station, event_of, frame_at, station_at}, State.{State, iface_count, is_own, is_up, my_address}, Step.step, Tables.{same_hop, same_option}, Timers.{Ending, next_due, timers}}}
 use Rattle.law_streams.{specs.{Copies.happens, InTimeJoins.Always, Joins.{join_packet, join_value}}}
-use Rattle.law_converges.{specs.{Carried.{EachMove, Traffic}, CarriedPrunes.{AreKnown, Brings, IsPrune, SeesPrune, TakesJoin, TakesPrune, Wish, WishKeeps}, LinkLosers.passes_throughout, LinkRpt.{AfterTurn, AtEachTurn, Throughout, WantsFrom, is_pruned_by, joins_source, override_packet, override_wait, prunes_source, sees_join}, LinkRptOrder.{IsOverride, Wire}}, proofs.{JoinTests.hop_so, KeepsTests.{above_none, bytes_so, delivered_so, delivery_test, same_bytes, when_so, when_test}, Tested.{Found, after_so, always_so, each_after, each_found, else_so, found, le_so, lt_so, moves_so, off_so, or_else, run_test, same_so, then}}}
+use Rattle.law_converges.{specs.{Carried.{EachMove, Traffic}, CarriedPrunes.{AreKnown, Brings, SeesPrune, TakesJoin, TakesPrune, Wish, WishKeeps}, LinkLosers.passes_throughout, LinkRpt.{AfterTurn, AtEachTurn, Throughout, WantsFrom, is_pruned_by, joins_source, override_packet, override_wait, prunes_source, sees_join}, LinkRptOrder.{IsOverride, Wire}}, proofs.{JoinTests.hop_so, KeepsTests.{above_none, bytes_so, delivered_so, delivery_test, same_bytes, when_so, when_test}, Tested.{Found, after_so, always_so, each_after, each_found, else_so, found, le_so, lt_so, moves_so, off_so, or_else, run_test, same_so, then}}}
 
 -- ---- time that passes
 

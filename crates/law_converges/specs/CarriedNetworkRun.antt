@@ -8,8 +8,8 @@ use Rattle.pim_wire.{specs.{JoinPrunes.join_prune_text, declared.join_prune.Entr
 use Rattle.igmp_wire.{specs.Reports.report_text}
 use Rattle.pim_model.{specs.{Messages.entry, Network.{At, Deliver, Move, Network, Sent, frame_at, network_ran}, Sets.metric_of, Tables.hop_at}}
 use Rattle.law_streams.{specs.{InTimeJoins.{Always, Join, Star}, Joins.join_packet}}
-use Rattle.pim_runs.{specs.{Base.{all_groups, base, interface, route_by, rp, rp_for, rp_network}, InTime.started, ServedChain.{asked_group, content, hello_from, station}, Words.{address, advance, frame, up}}}
-use Rattle.law_converges.{specs.{Carried.{Arrivals, Traffic}, CarriedNetwork.{Claim, HopOn, IsQuietPlan, JoinOver, Lan, Plan, WayOver, layout_of}, CarriedPrunes.{Wish, wire_of}, LinkAsserts.assert_packet, LinkDr.Member, LinkMembersRun.wish as host_wish, LinkQuerierRun.settings, LinkRpt.override_packet, LinkRptOrder.{AreInOrder, IsUnpruned, Wire}, Settles.HasSettled}}
+use Rattle.pim_runs.{specs.{Base.{base, interface, route_by, rp, rp_network}, InTime.started, ServedChain.{asked_group, content, hello_from, station}, Words.{address, advance, frame, up}}}
+use Rattle.law_converges.{specs.{Carried.{Arrivals, Traffic}, CarriedNetwork.{Claim, IsQuietPlan, JoinOver, Lan, Plan, WayOver, layout_of}, CarriedPrunes.{Wish, wire_of}, LinkAsserts.assert_packet, LinkDr.Member, LinkMembersRun.wish as host_wish, LinkQuerierRun.settings, LinkRpt.override_packet, LinkRptOrder.{AreInOrder, IsUnpruned, Wire}, Settles.HasSettled}}
 
 -- ---- the routers
 
