@@ -8,32 +8,37 @@ import unittest
 from concurrent.futures import ThreadPoolExecutor
 from pathlib import Path
 
-from pimtext.files.pimlab import PIMLAB
+from pimtext.files.pimlab import PIMLAB, playing
 from tests import stored
 
 ONE_JOIN = stored.EXAMPLES / "one_join.toml"
 
 
+def ran(*words, **how):
+    """A command's status and what it printed."""
+    done = subprocess.run(words, stdout=subprocess.PIPE, stderr=subprocess.PIPE, **how)
+    return done.returncode, done.stdout, done.stderr
+
+
 def called(*words, **how):
-    """Its status and what it printed, called with these words."""
-    ran = subprocess.run([sys.executable, PIMLAB, *words], stdout=subprocess.PIPE, stderr=subprocess.PIPE, **how)
-    return ran.returncode, ran.stdout, ran.stderr
+    """The same of `./pimlab` with these words."""
+    return ran(sys.executable, PIMLAB, *words, **how)
 
 
 def printed(path):
-    """The same of a stored scenario, and what is stored of it."""
+    """The same of a stored scenario, by the program that `./pimlab` would become, and what is stored of it."""
     out, err = path.with_suffix(".out"), path.with_suffix(".err")
     lines = out.read_bytes() if out.exists() else b""
     tables = ["--tables"] if b"\nrouter " in lines else []
     status, _, told = err.read_bytes().partition(b"\n") if err.exists() else (b"0", b"", b"")
-    return called("run", path, *tables), (int(status), lines, told)
+    return ran(playing(), "run", path, *tables), (int(status), lines, told)
 
 
 class Stored(unittest.TestCase):
     def test_stored_scenarios_print_their_lines(self):
         paths = sorted(stored.DATA.glob("*.toml"))
-        # The first call may build.
-        called("check", ONE_JOIN)
+        # It may be built first.
+        playing()
         with ThreadPoolExecutor(2) as pool:
             for path, (said, wanted) in zip(paths, pool.map(printed, paths)):
                 with self.subTest(path.name):
@@ -70,8 +75,8 @@ class Called(unittest.TestCase):
 
     def test_a_line_that_cannot_be_written(self):
         with open("/dev/full", "wb") as full:
-            ran = subprocess.run([sys.executable, PIMLAB, "check", ONE_JOIN], stdout=full, stderr=subprocess.PIPE)
-        self.assertEqual((ran.returncode, ran.stderr), (3, b"pimlab: wire fault\n"))
+            done = subprocess.run([sys.executable, PIMLAB, "check", ONE_JOIN], stdout=full, stderr=subprocess.PIPE)
+        self.assertEqual((done.returncode, done.stderr), (3, b"pimlab: wire fault\n"))
 
     def test_a_saved_state_goes_on(self):
         """A run that is cut in two, its second part begun in the state saved after the first, ends as the whole run."""
@@ -115,9 +120,9 @@ class Called(unittest.TestCase):
             for build, reason in (("proved", b"there is no command `rt`"), ("by-rattle", b"./test makes it")):
                 env = {"PATH": "/nowhere", "XDG_CACHE_HOME": room, "PIMLAB_BUILD": build}
                 words = [sys.executable, Path(room) / "pimlab", "check", ONE_JOIN]
-                ran = subprocess.run(words, env=env, capture_output=True)
-                self.assertEqual((ran.returncode, ran.stdout, ran.stderr.count(b"\n")), (1, b"", 1))
-                self.assertIn(reason, ran.stderr)
+                status, out, err = ran(*words, env=env)
+                self.assertEqual((status, out, err.count(b"\n")), (1, b"", 1))
+                self.assertIn(reason, err)
 
     def test_a_build_that_there_is_not(self):
         status, out, err = called("check", ONE_JOIN, env={**os.environ, "PIMLAB_BUILD": "fast"})

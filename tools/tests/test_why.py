@@ -17,7 +17,6 @@ from pimtext.files import pimlab
 from viqeshor.lab import scenario, toml_lines
 from pimtext.causes.diagnosis import Diagnosis
 from viqeshor.lab.faults import faults_of
-from pimtext.files.pimlab import PIMLAB
 from tests import stored
 
 GOOD = """\
@@ -298,7 +297,7 @@ def program_says(text):
     with tempfile.NamedTemporaryFile("w", suffix=".toml", newline="", encoding="utf-8") as file:
         file.write(text)
         file.flush()
-        ran = subprocess.run([sys.executable, PIMLAB, "check", file.name], capture_output=True, text=True)
+        ran = subprocess.run([pimlab.playing(), "check", file.name], capture_output=True, text=True)
     told = re.fullmatch(r"pimlab: scenario refused: (\d+)\n", ran.stderr)
     if ran.returncode and not told:
         raise RuntimeError(f"pimlab check fails: {ran.stderr}")
