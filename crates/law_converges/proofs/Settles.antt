@@ -3,7 +3,7 @@ use Rattle.std.{proofs.Common.{◌≡◌, ℕ, suc, ◌+◌, ◌*◌, ◌-◌, �
 use Rattle.pim_types.{specs.declared.fact.AssertMetric.AssertMetric}
 use Rattle.pim_model.{specs.Network.{Move, Network, Station, moved}}
 use Rattle.law_settled.{proofs.ListLaws.{each_both, each_more}}
-use Rattle.law_streams.{specs.{Adjacent.{most_late_hello}, InTimeJoins.{Always, IsBy, IsHeld, Join, Pair, most_late, time_at}}}
+use Rattle.law_streams.{specs.{Adjacent.{most_late_hello}, InTimeJoins.{Always, IsBy, IsHeld, Join, Pair, most_late, time_at}}, proofs.Copies.never_twice}
 use Rattle.law_converges.{specs.{JoinedWays.{AreHeldPast, AreTogether, a_hop}, LinkDr.{HasOneDr, IsOne, Member, OneDrAfter, Stands, between}, LinkJoins.{AllHeldAfter, IsPairOf, JoinsOver}, LinkMembers.{AnswersInTime, GroupKnownAfter, KnowsGroup}, LinkQuerier.{Asks, HasOneQuerier, OneQuerierAfter}, LinkRptOrder.{IsUnpruned, Wire}, OneSender.{IsOffTree, IsSilent, IsSilentAfter}, Past.{ArePast, HoldsPast}, Settles.{Contest, ContestIsQuiet, HasOneSender, HasSettled, Joining, JoiningIsQuiet, Link, LinkHasSettled, LinkIsQuiet, LoserIsQuiet, NetworkSettles, Way, WayIsQuiet, WireIsQuiet, routers}}, proofs.{JoinedWays.way_comes_to_be_joined, LinkDr.{always_more, exactly_one_dr}, LinkJoins.{all_come_to_be_held, first_of, too_late}, LinkMembers.member_comes_to_be_known, LinkQuerier.{asks_of, exactly_one_querier, keeps_of, leads_of}, LinkRptOrder.overridden_prune_has_no_effect, OneSender.at_most_one_comes_to_send, Past.{both_past, each_past, later_past, same_past, throughout_past}}}
 
 each_one : (P : Member → Type 0) (xs : List Member) → ((y : Member) → IsOne xs y → P y) → AllByRecursion P xs
@@ -150,7 +150,7 @@ module _ (started : ℕ → ℕ) (bound : ℕ) where
     contest_settles : (a : Contest) → ContestIsQuiet d bound started n ms a → HoldsPast started bound (λ n. HasOneSender n a) n ms
     contest_settles a f =
         same_past started bound (λ n. AllByRecursion (λ y. Silent y n) a.losers) (λ n. HasOneSender n a)
-        (λ n h. record { only = λ y is. one_of (λ y. Silent y n) a.losers y h is }) ms n
+        (λ n h. record { only = λ y is. one_of (λ y. Silent y n) a.losers y h is; once = λ e st at. never_twice st.state e }) ms n
         (each_past started bound Silent a.losers n ms (each_more _ _ one a.losers f.losers))
       where
         Silent : Member → Network → Type 0

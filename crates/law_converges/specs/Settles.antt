@@ -1,9 +1,9 @@
 -- A network settles: from a bound on, what the laws of links, of Joins, of ways, of asserts and of overridden Prunes say holds
 -- of all of these at once.
-use Rattle.std.{specs.{List.AllByRecursion, Prelude.{List, length, ℕ, ◌*◌, ◌+◌, ◌-◌, ◌<◌, ◌∷◌, ◌≤◌}}}
-use Rattle.pim_types.{specs.declared.{config.Settings.Settings, fact.AssertMetric.AssertMetric}}
-use Rattle.pim_model.{specs.Network.{Move, Network}}
-use Rattle.law_streams.{specs.{Adjacent.{Adjacent, most_late_hello}, InTimeJoins.{Always, IsHeld, IsJoin, Join, Pair, Wants}}}
+use Rattle.std.{specs.{List.AllByRecursion, Prelude.{List, Some, length, ℕ, ◌*◌, ◌+◌, ◌-◌, ◌<◌, ◌∷◌, ◌≡◌, ◌≤◌}}}
+use Rattle.pim_types.{specs.declared.{config.Settings.Settings, event.Event.Event, fact.AssertMetric.AssertMetric}}
+use Rattle.pim_model.{specs.Network.{Move, Network, Station, station_at}}
+use Rattle.law_streams.{specs.{Adjacent.{Adjacent, most_late_hello}, Copies.{AreOnceEach, copies_at}, InTimeJoins.{Always, IsHeld, IsJoin, Join, Pair, Wants}}}
 use Rattle.law_converges.{specs.{JoinedWays.{AreHops, AreTogether, IsDue, a_hop}, LinkDr.{HasOneDr, IsOne, MeetInTime, Member, between}, LinkJoins.JoinsOver, LinkLosers.{AssertsBy, AssertsComeInTime, most_late_assert}, LinkMembers.{AnswersInTime, KnowsGroup}, LinkQuerier.{AskInTime, HasOneQuerier}, LinkRptOrder.{AreInOrder, Begins, IsOverridable, IsUnpruned, Wire}, OneSender.{IsOffTree, IsSilent}, Past.HoldsPast}}
 
 -- ---- what there is
@@ -113,9 +113,11 @@ pub record LinkHasSettled (n : Network) (l : Link) : Type 0 where
   pub querier : HasOneQuerier l.first l.others n
   pub known : AllByRecursion (λ g. AllByRecursion (λ y. KnowsGroup g (between l.number l.first y) n) (routers l)) l.groups
 
--- none of the others sends what the assert is about on the link, so that at most the winner does
+-- none of the others sends what the assert is about on the link, so that at most the winner does; and that sends at most one copy
+-- on each of its interfaces for each packet that comes to it
 pub record HasOneSender (n : Network) (a : Contest) : Type 0 where
   pub only : (y : Member) → IsOne a.losers y → IsSilent a.group a.source (between a.link a.winner y) n
+  pub once : (e : Event) (st : Station) → station_at n (a.winner).router ≡ Some st → AreOnceEach st.state (copies_at st.state e)
 
 -- so it is with each link; each next hop holds what is joined over it, along a whole way too; at most one router of a link
 -- sends what an assert is about; and no Prune(S,G,rpt) that is overridden has taken effect

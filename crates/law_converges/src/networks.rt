@@ -6,12 +6,12 @@ ghost use Rattle.law_converges.specs.Settles.{NetworkSettles};
 /// However many links, routers, groups, Joins, ways, asserts and moves there are: from a bound on, whatever was before and
 /// without end, each link has exactly one DR, and exactly one querier, each router of a link knows each group with a member
 /// there, each next hop holds what is joined over it, with no Prune pending, also along ways of any length, of the routers
-/// of a link none but the winner of an assert sends there what the assert is about, and no Prune(S,G,rpt) that is overridden
-/// has taken effect. It holds after each of any moves by which the time at each router of the network is past the bound. The
-/// premises are those of `ExactlyOneDr`, `ExactlyOneQuerier`, `MemberComesToBeKnown`, `AllComeToBeHeld`, `WayComesToBeJoined`,
-/// `AtMostOneComesToSend` and `OverriddenPruneHasNoEffect` for each of these, with one d, which is below 37.5 s, and below
-/// 1.5 s where there is an assert, and one bound for all. So each router that joins wants what it joins, and has its next hop
-/// as a neighbour, from the beginning on.
+/// of a link none but the winner of an assert sends there what the assert is about, and that at most one copy for each packet
+/// that comes to it, and no Prune(S,G,rpt) that is overridden has taken effect. It holds after each of any moves by which the
+/// time at each router of the network is past the bound. The premises are those of `ExactlyOneDr`, `ExactlyOneQuerier`,
+/// `MemberComesToBeKnown`, `AllComeToBeHeld`, `WayComesToBeJoined`, `AtMostOneComesToSend` and `OverriddenPruneHasNoEffect`
+/// for each of these, with one d, which is below 37.5 s, and below 1.5 s where there is an assert, and one bound for all. So
+/// each router that joins wants what it joins, and has its next hop as a neighbour, from the beginning on.
 pub fn network_settles()
     ensures { NetworkSettles }
 {}
