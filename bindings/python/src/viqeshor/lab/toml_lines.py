@@ -15,6 +15,8 @@ from typing import Any, NoReturn
 DEPTH = 80
 BARE = re.compile(r"[A-Za-z0-9_-]+")
 WORD = re.compile(r"[A-Za-z0-9_+.:-]+")
+# Characters that are themselves in every text.
+ORDINARY = re.compile(r"[^\"'\\\x00-\x1f\x7f]+")
 BLANKS = re.compile(r"[ \t]*")
 # White space, ends of lines and comments.
 GAP = re.compile(r"(?:[ \t]|\r?\n|#[^\x00-\x08\x0a-\x1f\x7f]*(?=\r?\n|\Z))*")
@@ -108,7 +110,10 @@ class Reader:
         """The characters up to the closing mark."""
         found = []
         while not self.closes(mark, begin):
-            if self.starts("\\") and mark[0] == '"':
+            if run := ORDINARY.match(self.text, self.at):
+                self.at = run.end()
+                found.append(run[0])
+            elif self.starts("\\") and mark[0] == '"':
                 found.append(self.escape(len(mark) == 3))
             else:
                 found.append(self.plain(mark, begin))
