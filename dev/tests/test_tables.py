@@ -170,6 +170,7 @@ class Tables(unittest.TestCase):
             ("A {place} {role} {winner} {end} {metric}", {"crates/lab_parts/src/table.rt"}),
             ("row_of (Row.Assert key role winner end metric)", {
                 "crates/pim_c/specs/Rows.antt", "crates/pim_c/src/rows.rt"}),
+            ("winner: 0, end: 0, metric: 0 },", {"tools/pimtext/build/library.rt.in"}),
             ("metric: of.metric", {"bindings/rust/src/rows.rs"}),
             ("    metric: int  # an odd metric", {"bindings/python/src/viqeshor/rows.py"}),
             ("    metric: int\n", {"bindings/python/src/viqeshor/lab/printed.py"}),

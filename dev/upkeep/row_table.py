@@ -250,6 +250,13 @@ def blank_code(rows: list[Row]) -> Iterator[str]:
         yield "        },"
 
 
+def blank_call(rows: list[Row]) -> Iterator[str]:
+    """A blank row in the program that names the library's calls."""
+    for row in rows:
+        columns = ", ".join(f"{it.name}: {zero(it)}" for it in row.columns)
+        yield f"        {row.member}: {row.library}Columns {{ {columns} }},"
+
+
 def blank_spec(rows: list[Row]) -> Iterator[str]:
     for row in rows:
         yield from record(row.member, [(it.name, zero(it)) for it in row.columns])
