@@ -3,8 +3,8 @@ import shutil
 import subprocess
 import unittest
 
-from pimtext.build import builds, kept, kit, unproved
-from pimtext.build.modules import Module
+from pimtext.build import builds, kept, kit
+from pimtext.build.modules import Module, parts
 
 CRATE = kept.TOP / "crates" / "embed"
 
@@ -14,8 +14,11 @@ def build(room, progress, path):
     below = {name: uses for name, uses in kept.crates_of("embed").items() if name != "embed"}
     progress.step("the kit translates all crates")
     bytecode = kit.module_of("embed", room / "src" / "main.rt", below, room, progress.tick)
-    module = Module(kit.printed(bytecode, progress.tick))
-    kit.linked(unproved.objects(room, progress, module, [b"main"]), room / "embed")
+    text, made = room / "embed.ll", room / "embed.o"
+    text.write_bytes(next(parts(Module(kit.printed(bytecode, progress.tick)), [b"main"], 1)))
+    # It runs for a moment, and to optimise it takes a minute and more of a processor.
+    kit.ran(*kit.compiling(text, made, "-O0"))
+    kit.linked([made], room / "embed")
     builds.keep(room / "embed", path)
 
 
