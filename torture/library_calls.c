@@ -106,6 +106,7 @@ static void without_a_router(void) {
     is("no setting of them without a router", viq_older(NULL, 0, 3), VIQ_NO_SETTING);
     is("a guard without a router", viq_guard(NULL, 1), VIQ_NO_ROUTER);
     is("no setting of it without a router", viq_guard(NULL, 2), VIQ_NO_SETTING);
+    is("no sets of RPs without a router", viq_anycast(NULL, NULL, 0), VIQ_NO_ROUTER);
     is("version 2 without a router", viq_query_version(NULL, 0, 2), VIQ_NO_ROUTER);
     is("groups in an older mode without a router", viq_older_read(NULL), VIQ_NO_ROUTER);
     is("how many without a router", viq_older_rows(NULL), 0);
@@ -760,6 +761,83 @@ static void guarded(void) {
     is("on again", viq_guard(router, 1), VIQ_DONE);
     is("a Register of IGMP again", registered(router, IGMP, OURS), VIQ_GUARDED);
     is("data on a link", forwarded(router, UDP, OURS) == VIQ_DONE && viq_copies(router) == 1, true);
+    viq_end(router);
+}
+
+/* ---- RPs that share an address */
+
+enum { SHARED = 0x0a090909, OTHER = 0x0a000307, ITS_OWN = 0x0a000002 };
+
+/* A Register of data, from 10.0.3.LAST to an address. */
+static uint32_t registered_at(struct viq_router *router, uint8_t last, uint32_t to) {
+    uint8_t bytes[56] = {0x45, 0, 0, 56, 0, 0, 0, 0, 60, PIM, 0, 0, 10, 0, 3, last, (uint8_t)(to >> 24), (uint8_t)(to >> 16),
+                         (uint8_t)(to >> 8), (uint8_t)to, 0x21, 0, 0xde, 0xff};
+    set_sum(bytes, 20, 10);
+    put_packet(bytes + 28, UDP, OURS);
+    return (viq_unicast)(router, bytes, sizeof bytes, viq_draw(0));
+}
+
+/* Whether the packets that are to be sent go by unicast to these addresses, 0 where there is no second one. */
+static bool goes_to(struct viq_router *router, uint32_t first, uint32_t second) {
+    struct viq_packet packet;
+    uint8_t room[1528];
+    size_t count = second ? 2 : 1;
+    bool is_so = viq_packets(router) == count;
+    for (size_t at = 0; is_so && at < count; at++)
+        is_so = viq_take(router, &packet, room, sizeof room) && packet.kind == VIQ_UNICAST && packet.destination == (at ? second : first);
+    return is_so;
+}
+
+static void sets_that_are_refused(struct viq_router *router) {
+    static uint32_t others[VIQ_MOST_OTHERS + 1];
+    static struct viq_rp_set many[VIQ_MOST_RP_SETS + 1];
+    for (uint32_t at = 0; at < COUNT(others); at++) others[at] = OTHER + at;
+    const uint32_t twice[] = {OTHER, OTHER}, own[] = {0x0a000101}, no_host[] = {0};
+    const struct viq_rp_set wrong[] = {
+        {0x0a090908, ITS_OWN, others, 1}, {SHARED, 0x0a000003, others, 1}, {SHARED, SHARED, others, 1}, {SHARED, ITS_OWN, twice, 2},
+        {SHARED, ITS_OWN, own, 1}, {SHARED, ITS_OWN, no_host, 1}, {SHARED, ITS_OWN, others, COUNT(others)}, {0, 0, NULL, 0}};
+    for (size_t at = 0; at < COUNT(wrong); at++) is("a set that no router has", viq_anycast(router, &wrong[at], 1), VIQ_BAD_RP_SET);
+    const struct viq_rp_set far = {SHARED, ITS_OWN, NULL, SIZE_MAX}, two_sets[] = {{SHARED, ITS_OWN, others, 1}, {SHARED, ITS_OWN, others, 1}};
+    is("far too many others, which aren't read", viq_anycast(router, &far, 1), VIQ_BAD_RP_SET);
+    is("an address in two sets", viq_anycast(router, two_sets, 2), VIQ_BAD_RP_SET);
+    is("too many sets", viq_anycast(router, many, COUNT(many)), VIQ_BAD_RP_SET);
+    is("far too many, which aren't read", viq_anycast(router, NULL, SIZE_MAX), VIQ_BAD_RP_SET);
+    is("as many others as there may be", viq_anycast(router, &(struct viq_rp_set){SHARED, ITS_OWN, others, VIQ_MOST_OTHERS}, 1), VIQ_DONE);
+    is("none", viq_anycast(router, NULL, 0), VIQ_DONE);
+}
+
+static void shared_addresses(void) {
+    static const struct viq_range ranges[] = {{0xe0000000, 4, SHARED}};
+    static const uint32_t shared[] = {SHARED}, others[] = {OTHER};
+    static const struct viq_rp_set set[] = {{SHARED, ITS_OWN, others, 1}};
+    struct viq_settings settings = usual;
+    struct viq_router *router = NULL, *other = NULL;
+    uint8_t saved[4096];
+    size_t size = 0;
+    settings.addresses = shared, settings.address_count = COUNT(shared);
+    is("new with a shared address", viq_new(&router, VIQ_ABI, &settings, three, COUNT(three), two, COUNT(two), ranges, 1), VIQ_DONE);
+    sets_that_are_refused(router);
+    is("no timer", viq_next_moment(router), VIQ_NEVER);
+    is("a set", viq_anycast(router, set, 1), VIQ_DONE);
+    is("when sources are announced", viq_next_moment(router), 60000);
+    is("a Register to the shared address", registered_at(router, 1, SHARED), VIQ_DONE);
+    is("a set while its packets are untaken", viq_anycast(router, set, 1), VIQ_DONE);
+    is("it goes on, and then a Register-Stop", goes_to(router, OTHER, 0x0a000301), true);
+    is("one of the other", registered_at(router, 7, ITS_OWN), VIQ_DONE);
+    is("a Register-Stop alone", goes_to(router, OTHER, 0), true);
+    is("a set that is refused leaves it", viq_anycast(router, &(struct viq_rp_set){0}, 1), VIQ_BAD_RP_SET);
+    is("under another configuration", viq_reload(router, &settings, three, 2, NULL, 0, ranges, 1, viq_draw(7)), VIQ_DONE);
+    viq_clear(router);
+    is("without the address", viq_reload(router, &usual, three, 3, NULL, 0, ranges, 1, viq_draw(7)), VIQ_BAD_RP_SET);
+    is("by places", viq_reload_places(router, &usual, three, 3, NULL, 0, ranges, 1, (uint32_t[]){0, 1}, 2, viq_draw(7)), VIQ_BAD_RP_SET);
+    is("it goes on still", registered_at(router, 1, SHARED) == VIQ_DONE && goes_to(router, OTHER, 0x0a000301), true);
+    is("saved", viq_save(router, saved, sizeof saved, &size) == VIQ_DONE && size <= sizeof saved, true);
+    is("restored", viq_restore(&other, VIQ_ABI, saved, size), VIQ_DONE);
+    is("which has no set", registered_at(other, 1, SHARED) == VIQ_DONE && goes_to(other, 0x0a000301, 0), true);
+    viq_end(other);
+    is("no set any more", viq_anycast(router, NULL, 0), VIQ_DONE);
+    is("it goes on no more", registered_at(router, 1, SHARED) == VIQ_DONE && goes_to(router, 0x0a000301, 0), true);
+    is("without the address then", viq_reload(router, &usual, three, 3, NULL, 0, ranges, 1, viq_draw(7)), VIQ_DONE);
     viq_end(router);
 }
 
@@ -1472,6 +1550,7 @@ static void texts(void) {
     is("ignored", viq_is_ignored(VIQ_OWN) && viq_is_ignored(VIQ_ALREADY) && viq_is_ignored(VIQ_GUARDED) && !viq_is_ignored(VIQ_NO_TIMER) && !viq_is_ignored(VIQ_NOT_QUIET) && !viq_is_ignored(VIQ_IGNORED), true);
     is("untaken", viq_is_refused(VIQ_UNTAKEN) || viq_is_ignored(VIQ_UNTAKEN) || viq_is_lost(VIQ_UNTAKEN), false);
     is("lost", viq_is_lost(VIQ_LOST) && viq_is_lost(VIQ_FAILED) && !viq_is_lost(VIQ_MEMORY), true);
+    is("refused past the first numbers", viq_is_refused(VIQ_OWN_ADDRESSES) && viq_is_refused(VIQ_PLACES_DONT_FIT) && viq_is_refused(VIQ_BAD_RP_SET) && !viq_is_refused(VIQ_NOT_NEAR), true);
     is("the last reason", strcmp(viq_answer_text(VIQ_GUARDED), viq_answer_text(VIQ_GUARDED + 1)) != 0, true);
 }
 
@@ -1493,6 +1572,7 @@ int main(void) {
     full();
     moved_sources();
     guarded();
+    shared_addresses();
     older_versions();
     many_frames();
     reloads();

@@ -10,6 +10,7 @@
 static const uint32_t no_address = 0;
 static const struct viq_route no_route = {0, 33, 0, 0, 0, 0};
 static const struct viq_range no_range = {0, 33, 0};
+static const struct viq_rp_set no_rp_set = {0, 0, NULL, 0};
 
 struct route_list {
     const struct viq_route *at;
@@ -17,6 +18,11 @@ struct route_list {
 };
 struct range_list {
     const struct viq_range *at;
+    size_t count;
+};
+
+struct rp_set_list {
+    const struct viq_rp_set *at;
     size_t count;
 };
 
@@ -28,6 +34,15 @@ static struct route_list routes_of(const struct viq_route *routes, size_t count)
 static struct range_list ranges_of(const struct viq_range *ranges, size_t count) {
     struct range_list given = {ranges, count}, refused = {&no_range, 1};
     return count <= VIQ_MOST_RANGES ? given : refused;
+}
+
+/* Each refusal of sets is the same. */
+static struct rp_set_list rp_sets_of(const struct viq_rp_set *sets, size_t count) {
+    struct rp_set_list given = {sets, count}, refused = {&no_rp_set, 1};
+    if (count > VIQ_MOST_RP_SETS) return refused;
+    for (size_t at = 0; at < count; at++)
+        if (sets[at].other_count > VIQ_MOST_OTHERS) return refused;
+    return given;
 }
 
 static struct viq_core_configuration core_of(const struct viq_settings *settings,
@@ -185,6 +200,11 @@ uint32_t viq_query_version(struct viq_router *router, uint32_t iface, uint32_t v
 
 uint32_t viq_guard(struct viq_router *router, uint32_t on) { return viq_core_guard(CORE(router), on); }
 
+uint32_t viq_anycast(struct viq_router *router, const struct viq_rp_set *sets, size_t count) {
+    struct rp_set_list given = rp_sets_of(sets, count);
+    return viq_core_anycast(CORE(router), given.at, given.count);
+}
+
 uint32_t viq_older_read(struct viq_router *router) { return viq_core_older_read(CORE(router)); }
 
 size_t viq_older_rows(const struct viq_router *router) { return viq_core_older_rows(CORE(router)); }
@@ -250,6 +270,12 @@ uint32_t viq_record_ranges(const struct viq_call *call, const struct viq_range *
                            size_t room_length, size_t *size) {
     struct range_list given = ranges_of(ranges, count);
     return viq_core_record_ranges(call, given.at, given.count, room, room_length, size);
+}
+
+uint32_t viq_record_anycast(const struct viq_call *call, const struct viq_rp_set *sets, size_t count, uint8_t *room,
+                            size_t room_length, size_t *size) {
+    struct rp_set_list given = rp_sets_of(sets, count);
+    return viq_core_record_anycast(call, given.at, given.count, room, room_length, size);
 }
 
 uint32_t viq_record_reload(const struct viq_call *call, const struct viq_settings *settings,

@@ -72,6 +72,7 @@ bool viq_core_row(struct viq_core *router, size_t index, struct viq_core_row *ro
 uint32_t viq_core_older(struct viq_core *router, uint32_t iface, uint32_t hosts);
 uint32_t viq_core_query_version(struct viq_core *router, uint32_t iface, uint32_t version);
 uint32_t viq_core_guard(struct viq_core *router, uint32_t on);
+uint32_t viq_core_anycast(struct viq_core *router, const struct viq_rp_set *sets, size_t count);
 uint32_t viq_core_older_read(struct viq_core *router);
 size_t viq_core_older_rows(struct viq_core *router);
 bool viq_core_older_row(struct viq_core *router, size_t index, struct viq_older_row *row);
@@ -92,6 +93,8 @@ uint32_t viq_core_record_routes(const struct viq_call *call, const struct viq_ro
                                 uint8_t *room, size_t room_length, size_t *size);
 uint32_t viq_core_record_ranges(const struct viq_call *call, const struct viq_range *ranges, size_t count,
                                 uint8_t *room, size_t room_length, size_t *size);
+uint32_t viq_core_record_anycast(const struct viq_call *call, const struct viq_rp_set *sets, size_t count,
+                                 uint8_t *room, size_t room_length, size_t *size);
 uint32_t viq_core_record_reload(const struct viq_call *call, const struct viq_core_configuration *given,
                                 uint8_t *room, size_t room_length, size_t *size);
 uint32_t viq_core_record_reload_places(const struct viq_call *call, const struct viq_core_configuration *given,

@@ -102,7 +102,7 @@ class Read(unittest.TestCase):
     def test_a_refused_configuration(self):
         for path in stored.DATA.glob("*.err"):
             number = int(re.search(r"refused: (\d+)", path.read_text() + " refused: 0")[1])
-            if number in run.OF_CONFIGURATIONS:
+            if number in (*run.OF_CONFIGURATIONS, run.BAD_SETS):
                 case, refusal = run.read_case(path.with_suffix(".toml"))
                 self.assertEqual((refusal, case.lines), (run.REFUSALS[number], []))
         with repository({"a.toml": "", "a.out": "", "a.err": "2\npimlab: scenario refused: 31\n"}) as room:
@@ -216,6 +216,7 @@ class Asked(unittest.TestCase):
 
     def test_the_equations_of_a_case(self):
         text = run.equations(self.case(), None)
+        self.assertIn("pub fit : all_fit nodes ≡ true\n", text)
         self.assertIn("pub configured : configs_test ", text)
         self.assertIn(" ≡ Ok tt\n", text)
         self.assertIn(f"expected = {run.listing(map(run.numbers, self.case().lines))}", text)
@@ -225,6 +226,13 @@ class Asked(unittest.TestCase):
     def test_those_of_a_refused_configuration(self):
         text = run.equations(self.case(), "Overlap")
         self.assertIn(" ≡ Err Refusal.Overlap\n", text)
+        self.assertNotIn("pub holds", text)
+
+    def test_those_of_refused_sets(self):
+        text = run.equations(run.read_case(stored.DATA / "anycast_refused.toml")[0], "BadRpSet")
+        self.assertIn("pub fit : all_fit nodes ≡ false\n", text)
+        self.assertIn("rp_sets = (record { shared = (addr 168364297); own = (addr 167772165); ", text)
+        self.assertIn(" ≡ Ok tt\n", text)
         self.assertNotIn("pub holds", text)
 
     def test_all_lines_are_read_of_the_kernel(self):
@@ -371,10 +379,11 @@ class Told(unittest.TestCase):
         self.assertTrue(lines[1].startswith("b: set aside: b.toml isn't TOML"), lines)
 
 
-# Small scenarios with each kind of move, with older hosts and older queriers, a guard, reloads and a restart.
-SAMPLE = ("one_join", "a_restart", "two_routers", "frames_once_more", "a_host_of_version_one", "an_older_querier",
-          "a_guarded_register", "a_reload_of_an_address", "a_reload_with_older_hosts", "refused_and_ignored",
-          "routes_that_are_refused")
+# Small scenarios with each kind of move, with older hosts and older queriers, RPs that share an address, a guard,
+# reloads and a restart.
+SAMPLE = ("anycast_on_its_link", "one_join", "a_restart", "two_routers", "frames_once_more", "a_host_of_version_one",
+          "an_older_querier", "a_guarded_register", "a_reload_of_an_address", "a_reload_with_older_hosts",
+          "refused_and_ignored", "routes_that_are_refused")
 
 
 class Sample(unittest.TestCase):

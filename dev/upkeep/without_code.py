@@ -22,11 +22,12 @@ NOT_COMPUTED = ("Laws", "Lib")
 PARTS = {
     "law_settled": ("Laws", "Ready"), "law_events": ("Locality", "Rest", "Scopes"),
     "law_states": ("Reload", "Reloading", "Placing"), "pim_net": ("Reloading",),
+    "pim_anycast": ("Sets", "Passed", "Announced", "Joined"), "pim_lab": ("Stops",),
     "igmp_older_saved": ("Hosts",), "pim_session": ("Front", "Placed", "Reloaded"), "pim_guard": ("Guard",),
     "pim_runs": ("Transcript",),
 }
 # The files of these whose types are left.
-TYPES = {"igmp_older_saved": ("host",)}
+TYPES = {"igmp_older_saved": ("host",), "pim_anycast": ("front", "set")}
 # The crate with what a scenario's moves do.
 LAB_CRATE = "lab_runs"
 TYPE = re.compile(

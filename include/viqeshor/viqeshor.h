@@ -66,7 +66,7 @@ extern "C" {
 /* The number of what a compiled program and a library have to agree on: the values, the calls and the numbers of this
  * header and of plane.h. Wherever one of them changes, this number changes. A program passes it to viq_new and
  * viq_restore, which refuse any other. */
-#define VIQ_ABI 8
+#define VIQ_ABI 9
 
 /* The library's number: VIQ_ABI as it was built with. */
 uint32_t viq_abi(void);
@@ -125,6 +125,7 @@ enum {
     VIQ_CONFIGURED_RANGES = 38,
     VIQ_OWN_ADDRESSES = 70,
     VIQ_PLACES_DONT_FIT = 73,
+    VIQ_BAD_RP_SET = 74,
 
     VIQ_MEMORY = 40, /* memory was refused, and nothing has changed: the call may be made again */
     VIQ_FAILED = 41, /* the router was lost before: free it, and make another */
@@ -165,7 +166,8 @@ enum {
 /* Whether an event or a configuration was refused; whether an event was ignored; whether the router is lost, by this
  * event or an earlier one. */
 static inline bool viq_is_refused(uint32_t answer) {
-    return (answer > VIQ_DONE && answer < VIQ_MEMORY) || answer == VIQ_OWN_ADDRESSES || answer == VIQ_PLACES_DONT_FIT;
+    return (answer > VIQ_DONE && answer < VIQ_MEMORY) || answer == VIQ_OWN_ADDRESSES ||
+           answer == VIQ_PLACES_DONT_FIT || answer == VIQ_BAD_RP_SET;
 }
 static inline bool viq_is_ignored(uint32_t answer) { return answer > VIQ_IGNORED; }
 static inline bool viq_is_lost(uint32_t answer) { return answer == VIQ_LOST || answer == VIQ_FAILED; }
@@ -273,10 +275,11 @@ const char *viq_refused_text(uint32_t reason);
  * room. The interfaces that stay keep what viq_older and viq_query_version set, and the groups in an older mode; one that
  * is added is as in a new router.
  *
- * It answers VIQ_DONE; a refusal of 30 to 38 or 70 as viq_new does, VIQ_UNTAKEN or VIQ_MEMORY, where nothing has changed;
- * VIQ_LOST, VIQ_FAILED or VIQ_NO_ROUTER. Once it is done, what it sent is to be sent, and viq_copies answers 0; the rows
- * that were read are dropped; and a data plane reads all its rows again: viq_changed lists each source with a fact before
- * or after it, and viq_may_differ is true for all sources. */
+ * It answers VIQ_DONE; a refusal of 30 to 38 or 70 as viq_new does, VIQ_BAD_RP_SET where the sets of viq_anycast don't
+ * fit, VIQ_UNTAKEN or VIQ_MEMORY, where nothing has changed; VIQ_LOST, VIQ_FAILED or VIQ_NO_ROUTER. Once it is done,
+ * what it sent is to be sent, and viq_copies answers 0; the rows that were read are dropped; and a data plane reads all
+ * its rows again: viq_changed lists each source with a fact before or after it, and viq_may_differ is true for all
+ * sources. */
 VIQ_READ_ANSWER VIQ_NOT_NULL(2)
 uint32_t viq_reload(struct viq_router *router, const struct viq_settings *settings,
                     const struct viq_interface *interfaces, size_t interface_count, const struct viq_route *routes,
@@ -315,16 +318,16 @@ void viq_end(struct viq_router *router);
  * answers VIQ_DONE; VIQ_MEMORY, VIQ_FAILED or VIQ_NO_ROUTER, where nothing is written.
  *
  * These aren't saved, and a program keeps what it needs of them: what the clock showed at time 0, the source of draws,
- * packets that are untaken, rows that were read, and what viq_guard, viq_older and viq_query_version set. */
+ * packets that are untaken, rows that were read, and what viq_guard, viq_anycast, viq_older and viq_query_version set. */
 VIQ_READ_ANSWER VIQ_NOT_NULL(4)
 uint32_t viq_save(const struct viq_router *router, uint8_t *room, size_t room_length, size_t *size);
 
 /* Makes a router of saved bytes, which goes on from their state as the router that was saved: the same events and draws
- * bring the same answers and packets, once viq_older and viq_query_version have set what they had. It has nothing to
- * send and no rows that were read, and its guard is on. All that viq_save wrote is restored, by a library that writes the same version of the
- * format. Bytes may be anything: all others are refused that aren't of a state at rest with timers in their periods. The
- * second argument is VIQ_ABI. It answers VIQ_DONE, a refusal of saved bytes, VIQ_MEMORY or VIQ_OTHER_ABI. It writes what
- * `router` points to as viq_new does. */
+ * bring the same answers and packets, once viq_anycast, viq_older and viq_query_version have set what they had. It has
+ * nothing to send and no rows that were read, and its guard is on. All that viq_save wrote is restored, by a library
+ * that writes the same version of the format. Bytes may be anything: all others are refused that aren't of a state at
+ * rest with timers in their periods. The second argument is VIQ_ABI. It answers VIQ_DONE, a refusal of saved bytes,
+ * VIQ_MEMORY or VIQ_OTHER_ABI. It writes what `router` points to as viq_new does. */
 VIQ_READ_ANSWER VIQ_NOT_NULL(1)
 uint32_t viq_restore(struct viq_router **router, uint32_t abi, const uint8_t *bytes, size_t length);
 
@@ -743,6 +746,44 @@ size_t viq_report(uint32_t host, uint32_t kind, uint32_t group, const uint32_t *
 VIQ_READ_ANSWER
 uint32_t viq_guard(struct viq_router *router, uint32_t on);
 
+/* ---- RPs that share an address (RFC 4610)
+ *
+ * Several routers can be the RP of a group under one address (Anycast RP), which each of them has besides its own:
+ * unicast routing leads to the nearest that works. Each sends the others the Registers that come to it, and announces
+ * the sources on its own links to them by Null-Registers, so that all of them know the group's sources.
+ *
+ * A new router, or a restored one, has no set; then nothing of this happens. */
+
+/* The most sets, and the most others of a set. A longer list is refused by its count, and isn't read. A router has at
+ * most 136 addresses, of which each set shares another one and none shares the own one of a set. */
+#define VIQ_MOST_RP_SETS 135
+#define VIQ_MOST_OTHERS 16
+
+/* A set of routers that share an address, as one of them knows it. */
+struct viq_rp_set {
+    uint32_t shared;        /* an address of the router, and the RP of the set's groups by viq_ranges; no other set's */
+    uint32_t own;           /* an address of the router by which the others know it; shared in no set */
+    const uint32_t *others; /* the own addresses of the others: hosts', none twice, none of the router */
+    size_t other_count;
+};
+
+/* Sets the sets of RPs, in place of those before; without a set the router shares no address. It is no event: what is
+ * to be sent, the costs, what changed and the present are unchanged by it; viq_next_moment may be sooner. It may be
+ * called at any time. Where the sets are refused those before stay.
+ *
+ * From then on a Register to the shared address of a set, from none of its others, is sent on to each of them, from the
+ * own address and with a TTL lower by 1, before what the router itself sends; one with a TTL of 1 isn't. A Register
+ * from one of the others to the own address counts as one to the shared address, and isn't sent on. A source is
+ * announced where a link of which the router is the DR has it and it is kept alive: as soon as a packet of it comes by
+ * viq_frame or viq_seen, and at each timestamp that is a multiple of 60,000 ms, which viq_next_moment tells.
+ *
+ * viq_reload and viq_reload_places keep the sets, and refuse a configuration, by VIQ_BAD_RP_SET, to whose addresses
+ * they don't fit. So addresses are added before their sets, and taken away after them. viq_save has none of the sets.
+ *
+ * It answers VIQ_DONE; VIQ_BAD_RP_SET or VIQ_MEMORY, where nothing has changed; VIQ_FAILED or VIQ_NO_ROUTER. */
+VIQ_READ_ANSWER
+uint32_t viq_anycast(struct viq_router *router, const struct viq_rp_set *sets, size_t count);
+
 /* ---- older versions of IGMP (RFC 3376, section 7.3)
  *
  * A new router hears no older version: it refuses each message of one by VIQ_OLD_VERSION. The calls of this part are no
@@ -822,15 +863,18 @@ VIQ_READ_ANSWER VIQ_NOT_NULL(1) VIQ_NOT_NULL(6)
 uint32_t viq_record(const struct viq_call *call, const uint8_t *packet, size_t length, uint8_t *room,
                     size_t room_length, size_t *size);
 
-/* Write the record of viq_routes, of viq_ranges, and of another configuration, without a map of places and by one, in the
- * same way, whatever the letter is. A list that viq_routes, viq_ranges, viq_new or viq_reload_places refuses for its
- * length is recorded as one that is refused alike. */
+/* Write the record of viq_routes, of viq_ranges, of viq_anycast, and of another configuration, without a map of places
+ * and by one, in the same way, whatever the letter is. A list that viq_routes, viq_ranges, viq_anycast, viq_new or
+ * viq_reload_places refuses for its length is recorded as one that is refused alike. */
 VIQ_READ_ANSWER VIQ_NOT_NULL(1) VIQ_NOT_NULL(6)
 uint32_t viq_record_routes(const struct viq_call *call, const struct viq_route *routes, size_t count, uint8_t *room,
                            size_t room_length, size_t *size);
 VIQ_READ_ANSWER VIQ_NOT_NULL(1) VIQ_NOT_NULL(6)
 uint32_t viq_record_ranges(const struct viq_call *call, const struct viq_range *ranges, size_t count, uint8_t *room,
                            size_t room_length, size_t *size);
+VIQ_READ_ANSWER VIQ_NOT_NULL(1) VIQ_NOT_NULL(6)
+uint32_t viq_record_anycast(const struct viq_call *call, const struct viq_rp_set *sets, size_t count, uint8_t *room,
+                            size_t room_length, size_t *size);
 VIQ_READ_ANSWER VIQ_NOT_NULL(1) VIQ_NOT_NULL(2) VIQ_NOT_NULL(11)
 uint32_t viq_record_reload(const struct viq_call *call, const struct viq_settings *settings,
                            const struct viq_interface *interfaces, size_t interface_count,

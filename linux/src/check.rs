@@ -5,7 +5,7 @@ use crate::settings::{InterfaceSettings, Settings, Subnet};
 use crate::tables::Domain;
 use nix::unistd::Group;
 use std::io;
-use std::net::{SocketAddr, TcpListener};
+use std::net::{Ipv4Addr, SocketAddr, TcpListener};
 
 /// Links, and addresses by the numbers of links.
 type Has = (Vec<Link>, Vec<(u32, Subnet)>);
@@ -49,6 +49,18 @@ fn of_the_file(settings: &Settings) -> Vec<String> {
     let mut notes = Vec::new();
     if settings.rps.is_empty() {
         notes.push("there is no [[rp]]: only groups of 232.0.0.0/8, whose sources hosts name, get a tree".to_string());
+    }
+    let is_rp = |address: Ipv4Addr| settings.rps.iter().any(|rp| rp.address == address);
+    for set in settings.rp_sets.iter().filter(|set| !is_rp(set.shared)) {
+        notes.push(format!(
+            "no [[rp]] has the address {}, which this router shares: it is the RP of no group",
+            set.shared
+        ));
+    }
+    if settings.stays_on_shared_tree && !settings.rp_sets.is_empty() {
+        notes.push(
+            "with spt \"never\" this router joins no source of which another RP of [[anycast]] tells it".to_string(),
+        );
     }
     let open: Vec<_> = settings.interfaces.iter().filter(|it| is_open(it)).map(|it| it.name.as_str()).collect();
     if !open.is_empty() {

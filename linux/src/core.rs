@@ -7,7 +7,7 @@ use crate::outgoing::Outgoing;
 use crate::packet::{self, is_pim, HELLO};
 use crate::plane::Row;
 use crate::ports::{self, Places, Port};
-use crate::recorder::{answer_of, Configuration, Place, Recorder};
+use crate::recorder::{answer_of, Configuration, Place, Recorder, Set};
 use crate::settings::{RpSettings, Settings};
 use log::{error, info};
 use rand::rngs::{OsRng, StdRng};
@@ -15,8 +15,8 @@ use rand::{Rng, RngCore, SeedableRng};
 use std::collections::{BTreeMap, BTreeSet};
 use std::net::Ipv4Addr;
 use viqeshor::{
-    Error, Link, NeighbourRow, OlderRow, Range, Reason, Refusal, Route, Router, SourceTree, Table, TableRow, Target,
-    Tree, Verdict,
+    Error, Link, NeighbourRow, OlderRow, Range, Reason, Refusal, Route, Router, RpSet, SourceTree, Table, TableRow,
+    Target, Tree, Verdict,
 };
 
 /// A Hello that an event triggers leaves after a part of Triggered_Hello_Delay, in ms (RFC 7761, 4.3.1 and 4.11), which
@@ -76,6 +76,8 @@ pub struct Core {
     restored: BTreeSet<u32>,
     /// Whether its guard is on.
     has_guard: bool,
+    /// The sets of RPs that share an address, as the router has them.
+    rp_sets: Vec<RpSet>,
     /// How often memory was refused for a table that was to be read.
     pub refused_memory: u64,
     recorder: Option<Recorder>,
@@ -145,6 +147,7 @@ impl Core {
             speech: BTreeMap::new(),
             restored: BTreeSet::new(),
             has_guard: true,
+            rp_sets: Vec::new(),
             refused_memory: 0,
             recorder: None,
             next: None,
@@ -172,7 +175,8 @@ impl Core {
         }
         self.recorder = None;
         if let Some(place) = place {
-            match Recorder::begin(place, &mut self.router, &self.speech, self.has_guard, now) {
+            let set = Set { speech: &self.speech, has_guard: self.has_guard, rp_sets: &self.rp_sets };
+            match Recorder::begin(place, &mut self.router, &set, now) {
                 Ok(recorder) => {
                     info!("events are recorded in {}", place.folder.display());
                     self.recorder = Some(recorder);
@@ -184,9 +188,9 @@ impl Core {
 
     /// After a turn, at a moment in ms, what was recorded is written where it has waited for long.
     pub fn end_turn(&mut self, now: u64) {
-        let Core { router, recorder, speech, has_guard, .. } = self;
+        let Core { router, recorder, speech, has_guard, rp_sets, .. } = self;
         if let Some(recorder) = recorder {
-            let written = recorder.end_turn(router, speech, *has_guard, now);
+            let written = recorder.end_turn(router, &Set { speech, has_guard: *has_guard, rp_sets }, now);
             self.was_recorded(written);
         }
     }
@@ -251,10 +255,53 @@ impl Core {
         Ok(())
     }
 
+    /// From here on the router shares addresses by those of these sets that it can have. It answers why it can't have the
+    /// others.
+    pub fn set_rp_sets(&mut self, wanted: &[RpSet]) -> Result<Vec<String>, Fatal> {
+        let (fit, unfit): (Vec<_>, Vec<_>) = wanted.iter().cloned().partition(|set| self.told.unfit(set).is_none());
+        self.share(fit)?;
+        Ok(unfit.iter().filter_map(|set| self.told.unfit(set)).collect())
+    }
+
+    /// The sets by which it does.
+    pub fn rp_sets(&self) -> &[RpSet] {
+        &self.rp_sets
+    }
+
+    fn share(&mut self, sets: Vec<RpSet>) -> Result<(), Fatal> {
+        if self.rp_sets == sets {
+            return Ok(());
+        }
+        self.next = None;
+        self.router.set_rp_sets(&sets).map_err(Fatal::Router)?;
+        let written = self.recorder.as_mut().map_or(Ok(()), |it| it.set_rp_sets(&sets));
+        self.rp_sets = sets;
+        self.was_recorded(written);
+        Ok(())
+    }
+
     /// The router goes on with another configuration and these routes; where interfaces get other numbers, by their places.
     /// What is to leave then has the numbers that they get, and nothing is to leave before. Refused, it stays as it was. It
     /// is no event.
     pub fn reload(
+        &mut self,
+        settings: &Settings,
+        given: &Given,
+        routes: &[Route],
+        places: Option<&Places>,
+    ) -> Result<Answer, Fatal> {
+        let (told, before) = (told_of(settings, given), self.rp_sets.clone());
+        // A router keeps its sets, and takes no configuration to which they don't fit.
+        self.share(before.iter().filter(|set| told.unfit(set).is_none()).cloned().collect())?;
+        let answer = self.configure(settings, given, routes, places)?;
+        match answer {
+            Answer::Refused(_) => self.share(before)?,
+            _ => self.told = told,
+        }
+        Ok(answer)
+    }
+
+    fn configure(
         &mut self,
         settings: &Settings,
         given: &Given,
@@ -283,7 +330,6 @@ impl Core {
                 if let Some(places) = places {
                     self.renumber(places);
                 }
-                self.told = told_of(settings, given);
                 Ok(Answer::Done)
             }
             Err(Error::Refused(refusal)) => Ok(Answer::Refused(refusal)),

@@ -258,9 +258,11 @@ impl Daemon {
         }
     }
 
-    /// The library's router has a guard and speaks IGMP as the settings say.
+    /// The library's router has a guard, shares addresses and speaks IGMP as the settings say.
     fn speak(&mut self) -> Result<(), Fatal> {
         self.core.set_guard(self.settings.guard)?;
+        let unfit = self.core.set_rp_sets(&self.settings.rp_sets)?;
+        unfit.iter().for_each(|line| warn!("{line}"));
         self.ports.iter().try_for_each(|port| self.core.speak(port.number, port.settings.speech))
     }
 

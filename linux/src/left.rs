@@ -12,6 +12,7 @@ use std::io::{self, Write};
 use std::net::Ipv4Addr;
 use std::os::unix::fs::OpenOptionsExt;
 use std::path::Path;
+use viqeshor::RpSet;
 
 const MAGIC: &[u8; 4] = b"VQRD";
 const VERSION: u16 = 1;
@@ -31,6 +32,21 @@ pub struct Told {
     /// The own addresses that are on no link.
     #[serde(default)]
     pub addresses: Vec<Ipv4Addr>,
+}
+
+impl Told {
+    fn is_own(&self, address: Ipv4Addr) -> bool {
+        self.interfaces.iter().any(|it| it.0 == address) || self.addresses.contains(&address)
+    }
+
+    /// Why a router with these addresses can't have a set of RPs that share one.
+    pub fn unfit(&self, set: &RpSet) -> Option<String> {
+        let of_set = format!("the set of RPs that share {}", set.shared);
+        let lacking = [set.shared, set.own].iter().copied().find(|address| !self.is_own(*address));
+        let lacks = lacking.map(|address| format!("{of_set} waits: no interface has the address {address}"));
+        let own = set.others.iter().find(|other| self.is_own(**other));
+        lacks.or_else(|| own.map(|other| format!("{of_set} is left out: its other {other} is this router's own")))
+    }
 }
 
 #[derive(Clone, Debug, PartialEq, Eq, Serialize, Deserialize)]

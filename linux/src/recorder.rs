@@ -13,10 +13,10 @@ use std::io::{self, Write};
 use std::path::PathBuf;
 use std::time::Duration;
 use time::OffsetDateTime;
-use viqeshor::{Call, Error, Interface, Range, Route, Router, Settings, Target, Verdict};
+use viqeshor::{Call, Error, Interface, Range, Route, Router, RpSet, Settings, Target, Verdict};
 
 const MAGIC: &[u8; 4] = b"VQRC";
-const VERSION: u16 = 5;
+const VERSION: u16 = 6;
 const DONE: u32 = 0;
 /// What `viq_keep` answers where the source's timer doesn't run.
 const NO_TIMER: u32 = 52;
@@ -32,6 +32,14 @@ pub struct Place {
     pub name: String,
     /// The most bytes of both files.
     pub size: u64,
+}
+
+/// What was set in a router, which isn't in its saved state.
+pub struct Set<'a> {
+    pub speech: &'a BTreeMap<u32, Speech>,
+    pub has_guard: bool,
+    /// RPs that share an address.
+    pub rp_sets: &'a [RpSet],
 }
 
 /// What a router is told with which it goes on.
@@ -109,18 +117,12 @@ impl Place {
 
 impl Recorder {
     /// Begins with the state that the router has, at a moment in ms. The file is written that wasn't the last one before.
-    pub fn begin(
-        place: &Place,
-        router: &mut Router,
-        speech: &BTreeMap<u32, Speech>,
-        has_guard: bool,
-        now: u64,
-    ) -> io::Result<Recorder> {
+    pub fn begin(place: &Place, router: &mut Router, set: &Set, now: u64) -> io::Result<Recorder> {
         // So that the moments of the records can be told as times.
         let began = OffsetDateTime::now_utc() - Duration::from_millis(now);
         std::fs::write(place.folder.join(format!("{}.clock", place.name)), wall_time(began) + "\n")?;
         let number = 1 - place.newest();
-        let (file, written) = Recorder::file(place, number, router, speech, has_guard)?;
+        let (file, written) = Recorder::file(place, number, router, set)?;
         let (place, waiting) = (place.clone(), Vec::with_capacity(2 * ROOM));
         let mut recorder = Recorder { place, number, file, written, waiting, full: 0, due: None };
         recorder.set_sizes();
@@ -128,13 +130,7 @@ impl Recorder {
     }
 
     /// Writes what is before the first event.
-    fn file(
-        place: &Place,
-        number: usize,
-        router: &mut Router,
-        speech: &BTreeMap<u32, Speech>,
-        has_guard: bool,
-    ) -> io::Result<(File, u64)> {
+    fn file(place: &Place, number: usize, router: &mut Router, set: &Set) -> io::Result<(File, u64)> {
         let older = router.older_rows().map_err(refused)?.len() as u32;
         let state = router.save().map_err(refused)?;
         let mut bytes = [MAGIC.as_slice(), &VERSION.to_be_bytes()].concat();
@@ -142,12 +138,15 @@ impl Recorder {
         bytes.extend_from_slice(&(state.len() as u64).to_be_bytes());
         bytes.extend_from_slice(&crc32fast::hash(&bytes).to_be_bytes());
         bytes.extend_from_slice(&state);
-        for (iface, set) in speech {
-            setting(b'o', *iface, set.older_hosts as u32, DONE).put(&[], &mut bytes).map_err(refused)?;
-            setting(b'q', *iface, set.queries as u32, DONE).put(&[], &mut bytes).map_err(refused)?;
+        for (iface, speech) in set.speech {
+            setting(b'o', *iface, speech.older_hosts as u32, DONE).put(&[], &mut bytes).map_err(refused)?;
+            setting(b'q', *iface, speech.queries as u32, DONE).put(&[], &mut bytes).map_err(refused)?;
         }
-        if !has_guard {
+        if !set.has_guard {
             setting(b'd', 0, 0, DONE).put(&[], &mut bytes).map_err(refused)?;
+        }
+        if !set.rp_sets.is_empty() {
+            Call::default().put_rp_sets(set.rp_sets, &mut bytes).map_err(refused)?;
         }
         let beside = place.folder.join(format!("{}.new", place.name));
         let mut file = File::create(&beside)?;
@@ -233,6 +232,12 @@ impl Recorder {
         self.was_put()
     }
 
+    /// Sets of RPs, which the router took.
+    pub fn set_rp_sets(&mut self, sets: &[RpSet]) -> io::Result<()> {
+        Call::default().put_rp_sets(sets, &mut self.waiting).map_err(refused)?;
+        self.was_put()
+    }
+
     /// When what waits is to be written, in ms.
     pub fn due(&self) -> Option<u64> {
         self.due
@@ -248,13 +253,7 @@ impl Recorder {
     }
 
     /// After a turn, at a moment in ms: what waits for long is written, and where the file is full the other one begins.
-    pub fn end_turn(
-        &mut self,
-        router: &mut Router,
-        speech: &BTreeMap<u32, Speech>,
-        has_guard: bool,
-        now: u64,
-    ) -> io::Result<()> {
+    pub fn end_turn(&mut self, router: &mut Router, set: &Set, now: u64) -> io::Result<()> {
         if !self.waiting.is_empty() && *self.due.get_or_insert(now + WAITS) <= now {
             self.flush()?;
         }
@@ -262,7 +261,7 @@ impl Recorder {
         if size >= self.full {
             self.flush()?;
             self.number = 1 - self.number;
-            (self.file, self.written) = Recorder::file(&self.place, self.number, router, speech, has_guard)?;
+            (self.file, self.written) = Recorder::file(&self.place, self.number, router, set)?;
             self.set_sizes();
         }
         Ok(())
@@ -306,8 +305,11 @@ mod tests {
     fn records_are_as_the_library_writes_them() {
         let (place, mut router) = (place("form", 1 << 20), router());
         let speech = BTreeMap::from([(0, Speech::NEW)]);
+        let (shared, others) = (Ipv4Addr::new(10, 9, 9, 9), vec![Ipv4Addr::new(10, 1, 0, 7)]);
+        let sets = [RpSet { shared, own: OWN, others }];
+        let set = Set { speech: &speech, has_guard: true, rp_sets: &sets };
         let state = router.save().unwrap();
-        let mut recorder = Recorder::begin(&place, &mut router, &speech, true, 0).unwrap();
+        let mut recorder = Recorder::begin(&place, &mut router, &set, 0).unwrap();
         let answer = answer_of(&router.up(0, 7));
         let (sent, sum) = taken(&mut router);
         assert_ne!(sum, 0);
@@ -330,18 +332,21 @@ mod tests {
         router.reload_places(&settings, interfaces, routes, ranges, &[Some(0)], 9).unwrap();
         let given = Configuration { places: Some(&[Some(0)]), ..given };
         recorder.reload(taken(&mut router).0.since(0), &given, 9, DONE).unwrap();
-        recorder.end_turn(&mut router, &speech, true, 0).unwrap();
+        recorder.set_rp_sets(&[]).unwrap();
+        recorder.end_turn(&mut router, &set, 0).unwrap();
         assert_eq!(recorder.due(), Some(WAITS));
-        recorder.end_turn(&mut router, &speech, true, WAITS).unwrap();
+        recorder.end_turn(&mut router, &set, WAITS).unwrap();
         assert_eq!(recorder.due(), None);
         let summed = |bytes: Vec<u8>| [&bytes[..], &crc32fast::hash(&bytes).to_be_bytes()].concat();
-        let head = [b"VQRC\0\x05\0\0\0\0".as_slice(), &(state.len() as u64).to_be_bytes()].concat();
+        let head = [b"VQRC\0\x06\0\0\0\0".as_slice(), &(state.len() as u64).to_be_bytes()].concat();
         let mut wanted = [summed(head), state].concat();
         let words = |numbers: &[u32]| numbers.iter().flat_map(|number| number.to_be_bytes()).collect::<Vec<_>>();
         let record = |letter: u8, numbers: &[u32]| [vec![letter], words(numbers)].concat();
         let route = [0x0a09_0000, 16, 0x0a01_0002, 0, 110, 20];
         wanted.extend(summed(record(b'o', &[0, 0, 0, 0])));
         wanted.extend(summed(record(b'q', &[0, 3, 0, 0])));
+        let in_sets = [0, 1, shared.into(), OWN.into(), 0, 1, 0x0a01_0007, 0, 0];
+        wanted.extend(summed(record(b'y', &in_sets)));
         wanted.extend(summed(record(b'+', &[7, 0, 0, sum])));
         wanted.extend(summed(record(b'r', &[&[8, 0, 1], &route[..], &[0, 0]].concat())));
         wanted.extend(summed(record(b'k', &[OWN.into(), 0xef01_0101, 0, 5, 52, 0])));
@@ -353,6 +358,7 @@ mod tests {
         let placed = [&b"m"[..], &reload[1..behind], &words(&[0, 1, 0, 0, 0])].concat();
         wanted.extend(summed(reload));
         wanted.extend(summed(placed));
+        wanted.extend(summed(record(b'y', &[0, 0, 0, 0])));
         assert_eq!(std::fs::read(place.path(0)).unwrap(), wanted);
         std::fs::remove_dir_all(&place.folder).unwrap();
     }
@@ -360,12 +366,12 @@ mod tests {
     #[test]
     fn two_files_are_written_in_turn_and_bounded() {
         let (place, mut router) = (place("ring", 4_000), router());
-        let speech = BTreeMap::new();
-        let mut recorder = Recorder::begin(&place, &mut router, &speech, true, 0).unwrap();
+        let set = Set { speech: &BTreeMap::new(), has_guard: true, rp_sets: &[] };
+        let mut recorder = Recorder::begin(&place, &mut router, &set, 0).unwrap();
         for moment in 1..1_000 {
             let answer = answer_of(&router.advance(moment, 0));
             recorder.event(taken(&mut router).0.since(0), &Event::Advance(moment), 0, answer).unwrap();
-            recorder.end_turn(&mut router, &speech, true, moment).unwrap();
+            recorder.end_turn(&mut router, &set, moment).unwrap();
             let sizes = [0, 1].map(|number| std::fs::metadata(place.path(number)).map_or(0, |it| it.len()));
             assert!(sizes.iter().sum::<u64>() <= 4_100, "{sizes:?}");
         }
@@ -374,7 +380,7 @@ mod tests {
         drop(recorder);
         std::thread::sleep(std::time::Duration::from_millis(20));
         let before = std::fs::read(place.path(last)).unwrap();
-        assert_eq!(Recorder::begin(&place, &mut router, &speech, true, 999).unwrap().number, 1 - last);
+        assert_eq!(Recorder::begin(&place, &mut router, &set, 999).unwrap().number, 1 - last);
         let clock = std::fs::read_to_string(place.folder.join("router.clock")).unwrap();
         assert!(clock < wall_time(OffsetDateTime::now_utc()) && clock.ends_with("Z\n"));
         assert_eq!(std::fs::read(place.path(last)).unwrap(), before);

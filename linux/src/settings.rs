@@ -16,13 +16,15 @@ use std::fmt;
 use std::net::{Ipv4Addr, SocketAddr};
 use std::path::PathBuf;
 use toml::Spanned;
-use viqeshor::{OlderHosts, QueryVersion};
+use viqeshor::{OlderHosts, QueryVersion, RpSet};
 
 /// Linux has 32 virtual interfaces, and the register tunnel is one.
 pub const MOST_INTERFACES: usize = 31;
 /// It takes no virtual interface.
 pub const LOOPBACK: &str = "lo";
 const MOST_RANGES: usize = 256;
+/// Of a set of RPs that share an address.
+const MOST_OTHERS: usize = 16;
 /// A neighbour, a group of a host, its source, and a Join.
 const LEAST_LIMIT: u32 = 4;
 /// Of a path in sun_path, with the byte behind it.
@@ -203,6 +205,8 @@ pub struct Settings {
     pub last_member_query: u32,
     pub interfaces: Vec<InterfaceSettings>,
     pub rps: Vec<RpSettings>,
+    /// RPs that share an address.
+    pub rp_sets: Vec<RpSet>,
     pub policy: PolicySettings,
     pub routes: RouteSettings,
     pub level: LevelFilter,
@@ -264,6 +268,8 @@ struct File {
     interface: Vec<InterfaceTable>,
     #[serde(default)]
     rp: Vec<RpTable>,
+    #[serde(default)]
+    anycast: Vec<AnycastTable>,
 }
 
 #[derive(Deserialize, Default)]
@@ -366,6 +372,15 @@ struct InterfaceTable {
 struct RpTable {
     groups: Spanned<String>,
     address: Spanned<String>,
+}
+
+/// A set of RPs that share an address.
+#[derive(Deserialize)]
+#[serde(deny_unknown_fields)]
+struct AnycastTable {
+    shared: Spanned<String>,
+    own: Spanned<String>,
+    others: Vec<Spanned<String>>,
 }
 
 // ---- checked
@@ -655,18 +670,63 @@ impl Check<'_> {
 
     fn rp(&mut self, table: &RpTable) -> Option<RpSettings> {
         let groups = self.subnet(&table.groups, "the groups");
-        let address = self.host(&table.address, "the RP");
+        let address = self.reached(&table.address, "the RP");
         let (groups, address) = (groups?, address?);
-        let of_loopback = address.is_loopback().then_some("no other router reaches it");
-        if let Some(reason) = not_a_host(Subnet { address, length: 32 }).or(of_loopback) {
-            self.wrong(table.address.start(), format!("the RP {address}: {reason}"));
-        }
         if self.are_groups(&table.groups, groups) {
             if let Some(reason) = without_rp(groups) {
                 self.wrong(table.groups.start(), format!("the groups {groups} {reason}"));
             }
         }
         Some(RpSettings { groups, address })
+    }
+
+    /// An address of an RP, which other routers reach.
+    fn reached(&mut self, given: &Spanned<String>, what: &str) -> Option<Ipv4Addr> {
+        let address = self.host(given, what)?;
+        let of_loopback = address.is_loopback().then_some("no other router reaches it");
+        if let Some(reason) = not_a_host(Subnet { address, length: 32 }).or(of_loopback) {
+            self.wrong(given.start(), format!("{what} {address}: {reason}"));
+        }
+        Some(address)
+    }
+
+    fn rp_set(&mut self, table: &AnycastTable) -> Option<RpSet> {
+        let shared = self.reached(&table.shared, "the shared address");
+        let own = self.reached(&table.own, "the own address");
+        let mut others: Vec<Ipv4Addr> = Vec::new();
+        for given in &table.others {
+            if let Some(other) = self.reached(given, "the address of another RP") {
+                if others.contains(&other) {
+                    self.wrong(given.start(), format!("the address of another RP {other} is given twice"));
+                }
+                if [shared, own].contains(&Some(other)) {
+                    self.wrong(given.start(), format!("the address of another RP {other} is this router's own"));
+                }
+                others.push(other);
+            }
+        }
+        if let Some(past) = table.others.get(MOST_OTHERS) {
+            self.wrong(past.start(), format!("at most {MOST_OTHERS} others share an address with a router"));
+        }
+        Some(RpSet { shared: shared?, own: own?, others })
+    }
+
+    fn rp_sets(&mut self, tables: &[AnycastTable]) -> Vec<RpSet> {
+        let read: Vec<_> = tables.iter().map(|table| (table, self.rp_set(table))).collect();
+        let is_shared = |address: Ipv4Addr| read.iter().flat_map(|(_, set)| set).any(|set| set.shared == address);
+        for (number, (table, set)) in read.iter().enumerate() {
+            let (shared, own) = match set {
+                Some(set) => (set.shared, set.own),
+                None => continue,
+            };
+            if read[..number].iter().flat_map(|(_, set)| set).any(|other| other.shared == shared) {
+                self.wrong(table.shared.start(), format!("the shared address {shared} is given twice"));
+            }
+            if is_shared(own) {
+                self.wrong(table.own.start(), format!("the own address {own} is one that routers share"));
+            }
+        }
+        read.into_iter().filter_map(|(_, set)| set).collect()
     }
 
     fn are_groups(&mut self, given: &Spanned<String>, groups: Subnet) -> bool {
@@ -821,6 +881,7 @@ impl Check<'_> {
             last_member_query: self.tenths("last_member_query", &igmp.last_member_query, 10, 255),
             interfaces: self.interfaces(file, &usual),
             rps: self.rps(&file.rp),
+            rp_sets: self.rp_sets(&file.anycast),
             policy: self.policy_of_none(&file.policy, &usual),
             routes: self.routes(&file.routes),
             level: self.one_of("log", &file.log, &LEVELS),
@@ -927,7 +988,7 @@ impl Settings {
     }
 
     /// What is of the library's router, which goes on with another configuration where it differs: all but the RP ranges,
-    /// the lists, the quotas and the lines.
+    /// the sets of RPs, the lists, the quotas and the lines.
     pub fn differs_in_router(&self, other: &Settings) -> bool {
         let own = |it: &Settings| {
             let interface = |one: &InterfaceSettings| {
@@ -989,6 +1050,36 @@ mod tests {
         assert_eq!(eth0.speech, Speech { older_hosts: OlderHosts::All, queries: QueryVersion::Three });
         assert_eq!((it.control.path, it.control.group, it.control.mode), (USUAL_SOCKET.into(), None, 0o600));
         assert_eq!(it.metrics, None);
+    }
+
+    #[test]
+    fn rps_share_an_address() {
+        let of = |tables: &str| format!("{SMALL}{tables}");
+        let set = |shared: &str, own: &str, others: &str| {
+            format!("[[anycast]]\nshared = \"{shared}\"\nown = \"{own}\"\nothers = [{others}]\n")
+        };
+        let (shared, own, other) = ([10, 9, 9, 9].into(), [10, 0, 0, 2].into(), [10, 0, 0, 3].into());
+        let read_sets = read(&of(&set("10.9.9.9", "10.0.0.2", "\"10.0.0.3\""))).unwrap().rp_sets;
+        assert_eq!(read_sets, [RpSet { shared, own, others: vec![other] }]);
+        let told = |tables: &str| only(&of(tables));
+        let wrong = told(&set("10.9.9.x", "10.0.0.2", ""));
+        assert_eq!(wrong, (4, "the shared address \"10.9.9.x\" isn't an IPv4 address".to_string()));
+        let wrong = told(&set("127.0.0.9", "10.0.0.2", ""));
+        assert_eq!(wrong, (4, "the shared address 127.0.0.9: no other router reaches it".to_string()));
+        let wrong = told(&set("10.9.9.9", "224.0.0.9", ""));
+        assert_eq!(wrong, (5, "the own address 224.0.0.9: it is no address of a host".to_string()));
+        let wrong = told(&set("10.9.9.9", "10.9.9.9", ""));
+        assert_eq!(wrong, (5, "the own address 10.9.9.9 is one that routers share".to_string()));
+        let wrong = told(&set("10.9.9.9", "10.0.0.2", "\"10.0.0.3\", \"10.0.0.3\""));
+        assert_eq!(wrong, (6, "the address of another RP 10.0.0.3 is given twice".to_string()));
+        let wrong = told(&set("10.9.9.9", "10.0.0.2", "\"10.0.0.2\""));
+        assert_eq!(wrong, (6, "the address of another RP 10.0.0.2 is this router's own".to_string()));
+        let many = (1..=17).map(|last| format!("\"10.0.1.{last}\"")).collect::<Vec<_>>().join(", ");
+        assert_eq!(told(&set("10.9.9.9", "10.0.0.2", &many)).1, "at most 16 others share an address with a router");
+        let twice = [set("10.9.9.9", "10.0.0.2", ""), set("10.9.9.9", "10.0.0.2", "")].concat();
+        assert_eq!(told(&twice), (8, "the shared address 10.9.9.9 is given twice".to_string()));
+        let of_another = [set("10.9.9.9", "10.8.8.8", ""), set("10.8.8.8", "10.0.0.2", "")].concat();
+        assert_eq!(told(&of_another), (5, "the own address 10.8.8.8 is one that routers share".to_string()));
     }
 
     #[test]

@@ -209,6 +209,10 @@ fn rp(daemon: &mut Daemon) -> Result<Rows, Fatal> {
     groups.extend(daemon.core.rows_of::<GroupRow>()?.iter().map(|row| u32::from(row.group)));
     let groups: Vec<_> = groups.into_iter().map(|group| (group, rp_of(daemon, group))).collect();
     let ranges = &daemon.settings.rps;
+    let others = |rp: Ipv4Addr| {
+        let set = daemon.core.rp_sets().iter().find(|set| set.shared == rp);
+        set.iter().flat_map(|set| &set.others).map(Ipv4Addr::to_string).collect::<Vec<_>>()
+    };
     let row = |range: &RpSettings| {
         let is_here = is_here(daemon, range.address);
         let way = way(daemon, range.address).filter(|_| !is_here);
@@ -218,6 +222,7 @@ fn rp(daemon: &mut Daemon) -> Result<Rows, Fatal> {
             ("groups", json!(range.groups.to_string())),
             ("rp", json!(range.address.to_string())),
             ("is_here", json!(is_here)),
+            ("shared_with", json!(others(range.address))),
             ("interface", way.map_or(Value::Null, |(iface, _)| json!(daemon.name(iface)))),
             ("next_hop", way.map_or(Value::Null, |(_, hop)| json!(hop.to_string()))),
             ("used_by", json!(groups.iter().filter(is_used).count())),

@@ -13,7 +13,8 @@ HERE = Path(__file__).resolve().parent.parent
 FRR = Path("/usr/lib/frr")
 PLACES = ("source", "first", "second", "router", "hosts", "viewer", "lan", "asker", "older")
 # Of a trial of its own.
-MORE_PLACES = ("red-source", "red-host", "blue-source", "blue-host")
+MORE_PLACES = ("red-source", "red-host", "blue-source", "blue-host",
+               "west-host", "west", "one", "two", "east", "east-host")
 NAMES = {place: f"vq-{place}-{os.getpid()}" for place in (*PLACES, *MORE_PLACES)}
 LINKS = [
     ("source", "10.1.0.50/24", "first", "10.1.0.1/24"),
@@ -166,8 +167,11 @@ class Network:
                 one.terminate()
         for one in self.running:
             one.wait()
-        for name in NAMES.values():
-            subprocess.run(["ip", "netns", "delete", name], stderr=subprocess.DEVNULL)
+        self.delete(NAMES)
+
+    def delete(self, places: Iterable[str]) -> None:
+        for place in places:
+            subprocess.run(["ip", "netns", "delete", NAMES[place]], stderr=subprocess.DEVNULL)
 
     def start(self, place: str, *words: object, **how: Any) -> subprocess.Popen[str]:
         started = subprocess.Popen(inside(place, *words), text=True, **how)
@@ -247,9 +251,10 @@ class Network:
         assert line in self.settings
         self.reload(self.settings.replace(line, line + lines))
 
-    def show(self, topic: str, *about: str) -> list[dict[str, Any]]:
-        """What `viqeshord show` prints, as rows; none where the router doesn't answer."""
-        words = [self.built / "viqeshord", "show", topic, *about, "--json", "--socket", self.control]
+    def show(self, topic: str, *about: str, control: Path | None = None) -> list[dict[str, Any]]:
+        """What `viqeshord show` prints, as rows; none where the router doesn't answer. By its socket another router is
+        asked."""
+        words = [self.built / "viqeshord", "show", topic, *about, "--json", "--socket", control or self.control]
         said = subprocess.run(list(map(str, words)), capture_output=True, text=True)
         return json.loads(said.stdout)[topic] if said.returncode == 0 else []
 

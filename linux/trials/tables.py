@@ -1,7 +1,6 @@
 """Two more routers on the machine of the router, each with a table of its own: a VRF where the kernel has these."""
 from __future__ import annotations
 
-import json
 import signal
 import subprocess
 import sys
@@ -94,9 +93,7 @@ def start(net: Network, part: Part, is_vrf: bool) -> subprocess.Popen[str]:
 
 
 def shown(net: Network, part: Part, topic: str) -> list[dict[str, object]]:
-    words = [net.built / "viqeshord", "show", topic, "--json", "--socket", net.room / "router" / part.name]
-    said = subprocess.run(list(map(str, words)), capture_output=True, text=True)
-    return json.loads(said.stdout)[topic] if said.returncode == 0 else []
+    return net.show(topic, control=net.room / "router" / part.name)
 
 
 def rules(family: str = "rule") -> str:

@@ -140,6 +140,23 @@ class Recorded(unittest.TestCase):
         first, _ = tomllib.loads(scenario.read_text())["move"]
         self.assertEqual((first["do"], first["places"], len(first["config"]["iface"])), ("reload", ["none", "0"], 1))
 
+    def test_sets_of_rps(self):
+        with Router([("10.0.0.2", 24), ("10.0.1.1", 24)], library=self.shared) as router:
+            with recording.Recorder(router, self.room / "shared"):
+                router.set_rp_sets([("10.0.0.2", "10.0.1.1", ["10.0.3.7", "10.0.3.8"])])
+                router.set_rp_sets([])
+                router.set_rp_sets([("10.0.0.2", "10.0.1.1", [])])
+                router.advance(1000)
+        path, part = self.room / "shared.0", self.room / "part"
+        self.assertEqual(self.run_tool(path), (0, "4 records, each as it was recorded\n"))
+        said = ["10.0.0.2 own 10.0.1.1 others 10.0.3.7 10.0.3.8", "none", "10.0.0.2 own 10.0.1.1 others none"]
+        told = "".join(f"{number} 0 ms anycast {what}: done\n" for number, what in enumerate(said, 1))
+        self.assertEqual(self.run_tool(path, "--list", "--to", "3"), (0, told))
+        for first, names in (("2", ["anycast", "anycast", "anycast", "advance"]), ("3", ["anycast", "advance"])):
+            self.assertEqual(self.run_tool(path, "--from", first, "--write", part)[0], 0)
+            self.assertEqual([record.name for record in recording.read(part).records], names)
+            self.assertEqual(self.run_tool(part)[0], 0)
+
     def test_what_differs(self):
         path = self.room / "router.0"
         told = recording.read(path)

@@ -21,7 +21,7 @@ class Recordings(unittest.TestCase):
     def setUp(self):
         room = tempfile.TemporaryDirectory()
         self.addCleanup(room.cleanup)
-        self.path = Path(room.name) / "router"
+        self.now, self.path = 0, Path(room.name) / "router"
         self.router = Router(LINKS, [("224.0.0.0/4", "10.0.0.2")], [("10.9.0.0/16", "10.0.0.1", 0, 110, 20)])
         self.addCleanup(self.router.end)
 
@@ -55,22 +55,25 @@ class Recordings(unittest.TestCase):
             self.router.set_older_hosts(1, "all")
             self.router.set_query_version(1, 2)
             self.router.set_guard(False)
+            self.router.set_rp_sets([("10.0.0.2", "10.0.1.1", ["10.0.3.7", "10.0.3.8"])])
             self.use()
             self.router.reload(LINKS[::-1], places=[1, 0])
         self.router.up(0)
         differ, told = self.played(f"{self.path}.0")
-        self.assertEqual((differ, len(told.records), told.older_groups), ([], 16, 0))
+        self.assertEqual((differ, len(told.records), told.older_groups), ([], 17, 0))
         self.assertEqual({record.name for record in told.records}, set(recording.KINDS))
-        self.assertEqual(told.records[5].answer, Answer.DONE)
+        self.assertEqual(told.records[6].answer, Answer.DONE)
         self.assertTrue(any(record.total for record in told.records))
 
     def test_the_library_writes_what_is_read(self):
         with Recorder(self.router, self.path):
             self.router.set_older_hosts(1, "all")
+            self.router.set_rp_sets([("10.0.0.2", "10.0.1.1", ["10.0.3.7", "10.0.3.8"])])
             self.use()
+            self.router.set_rp_sets([])
             self.router.reload(LINKS[:1], places=[None, 0])
         told = recording.read(f"{self.path}.0")
-        head = b"VQRC" + struct.pack(">HIQ", 5, 0, len(told.state))
+        head = b"VQRC" + struct.pack(">HIQ", 6, 0, len(told.state))
         head += struct.pack(">I", zlib.crc32(head)) + told.state
         written = b"".join(map(self.text_of, told.records))
         self.assertEqual(Path(f"{self.path}.0").read_bytes(), head + written)
@@ -86,6 +89,12 @@ class Recordings(unittest.TestCase):
         elif record.name in recording.LISTS:
             width = {"routes": 24, "ranges": 12}[record.name]
             given += struct.pack(">Q", len(record.data) // width) + record.data
+        elif record.name == "anycast":
+            given += struct.pack(">Q", len(record.numbers))
+            at = 0
+            for count in record.numbers:
+                given += record.data[at:at + 8] + struct.pack(">Q", count) + record.data[at + 8:at + 8 + 4 * count]
+                at += 8 + 4 * count
         elif record.name in recording.RELOADS:
             limit, robustness, *times, stays = struct.unpack(">6I", record.data[:24])
             given += struct.pack(">IB4I", limit, stays, robustness, *times)
@@ -241,11 +250,31 @@ class Recordings(unittest.TestCase):
         path.write_bytes(data[:-1])
         cut = recording.read(path)
         self.assertEqual((cut.records, recording.read(path).rest), (whole[:-1], len(self.text_of(whole[-1])) - 1))
-        for given in (b"", data[:10], b"other" + data, data[:4] + struct.pack(">H", 6) + data[6:]):
+        for given in (b"", data[:10], b"other" + data, data[:4] + struct.pack(">H", 7) + data[6:]):
             path.write_bytes(given)
             self.assertRaises(recording.Unreadable, recording.read, path)
         path.write_bytes(data + b"?")
         self.assertEqual((recording.read(path).records, recording.read(path).rest), (whole, 1))
+
+    def test_sets_of_rps_are_as_they_were(self):
+        inner = hosts.data("10.0.3.5", GROUP)
+        register = packets.write(103, "10.0.3.1", "10.0.0.2", 60, b"\x21\0\xde\xff\0\0\0\0" + inner)
+        for first in (True, False):
+            self.router.set_rp_sets([("10.0.0.2", "10.0.1.1", ["10.0.3.7"])] if first else [])
+            with Recorder(self.router, self.path, most=4096):
+                if not first:
+                    self.router.set_rp_sets([("10.0.0.2", "10.0.1.1", ["10.0.3.8"])])
+                for moment in range(100):
+                    self.router.advance(self.now + moment)
+                    self.router.unicast(register)
+            self.now += 100
+            for path in recording.newest(self.path):
+                differ, told = self.played(path)
+                self.assertEqual((differ, told.records[0].name, told.records[0].numbers), ([], "anycast", (1,)))
+                self.assertTrue(all(record.total for record in told.records if record.name == "unicast"))
+        with recording.restored(told) as router:
+            recording.take(router, told.records[0])
+            self.assertEqual(router.rp_sets, [("10.0.0.2", "10.0.1.1", ("10.0.3.8",))])
 
     def test_the_guard_is_as_it_was(self):
         """A recording begins with a router that has a guard, unless it says otherwise or is of a version before 4."""
@@ -371,7 +400,7 @@ class Disks(unittest.TestCase):
     def setUp(self):
         room = tempfile.TemporaryDirectory()
         self.addCleanup(room.cleanup)
-        self.path = Path(room.name) / "router"
+        self.now, self.path = 0, Path(room.name) / "router"
         self.router = Router(LINKS)
         self.addCleanup(self.router.end)
 

@@ -477,6 +477,56 @@ class Routers(unittest.TestCase):
         self.assertEqual(router.unicast(registered(17, "225.1.1.1")), Answer.DONE)
         self.assertEqual([one.kind for one in router.packets()], ["copy"])
 
+    def test_rps_share_an_address(self):
+        def registered(host, to):
+            inner = packets.write(17, "10.0.3.5", "225.1.1.1", 9, bytes(8))
+            return packets.write(103, host, to, 60, b"\x21\0\xde\xff\0\0\0\0" + inner)
+
+        shared, own, other = "10.9.9.9", "10.0.0.2", "10.0.3.7"
+        router = Router(INTERFACES, RANGES, addresses=[shared])
+        self.addCleanup(router.end)
+        others = [f"10.0.4.{last}" for last in range(1, 18)]
+        for wrong in ((shared, shared, [other]), (shared, own, [other, other]), (shared, own, others)):
+            with self.assertRaises(Refused) as caught:
+                router.set_rp_sets([wrong])
+            self.assertEqual((caught.exception.answer, router.rp_sets), (Answer.BAD_RP_SET, []))
+        self.assertRaises(ValueError, router.set_rp_sets, [(shared, own, ["10.0.3"])])
+        self.assertTrue(Answer.BAD_RP_SET.is_refused)
+        router.set_rp_sets([(shared, own, [other])])
+        self.assertEqual(router.rp_sets, [viqeshor.RpSet(shared, own, (other,))])
+        self.assertEqual(router.next_moment(), 60_000)
+        self.assertEqual(router.unicast(registered("10.0.3.1", shared)), Answer.DONE)
+        copy, stop = router.packets()
+        self.assertEqual(copy[:2], ("unicast", other))
+        self.assertEqual((copy.packet[8], copy.packet[12:16]), (59, b"\n\0\0\2"))
+        self.assertEqual((stop.where, copy.packet[20:]), ("10.0.3.1", registered("10.0.3.1", shared)[20:]))
+        # One of the other's is answered, and goes on to nobody.
+        self.assertEqual(router.unicast(registered(other, own)), Answer.DONE)
+        self.assertEqual([each.where for each in router.packets()], [other])
+        with self.assertRaises(Refused) as caught:
+            router.reload(INTERFACES, RANGES)
+        self.assertEqual(caught.exception.answer, Answer.BAD_RP_SET)
+        with Router.restore(router.save()) as again:
+            again.unicast(registered("10.0.3.1", shared))
+            self.assertEqual(([each.where for each in again.packets()], again.rp_sets), (["10.0.3.1"], []))
+        router.set_rp_sets([])
+        router.reload(INTERFACES, RANGES)
+
+    def test_a_source_on_a_link_is_announced(self):
+        router = Router([("10.0.0.2", 24), ("10.0.1.1", 24)], RANGES, addresses=["10.9.9.9"])
+        self.addCleanup(router.end)
+        router.set_rp_sets([("10.9.9.9", "10.0.0.2", ["10.0.3.7", "10.0.3.8"])])
+        router.up(0), router.up(1)
+        router.run_to(10_000)
+        data = hosts.data("10.0.1.7", "225.1.1.1", b"word")
+        router.frame(1, data)
+        told = [(each.where, each.packet[20], each.packet[24]) for each in router.packets() if each.kind == "unicast"]
+        self.assertEqual(told, [("10.0.3.7", 0x21, 0x40), ("10.0.3.8", 0x21, 0x40)])
+        router.frame(1, data)
+        self.assertEqual([each.kind for each in router.packets()].count("unicast"), 0)
+        sent = [each.where for each in router.run_to(60_000) if each.kind == "unicast"]
+        self.assertEqual((sent, router.next_moment() <= 120_000), (["10.0.3.7", "10.0.3.8"], True))
+
     def test_hosts_of_older_versions(self):
         router, group = self.router(), "239.1.1.1"
         router.up(2)

@@ -43,7 +43,7 @@ pub use trees::{Hop, LanDelay, Link, Neighbour, Path, Querier, Querying, Rpf, Rp
 /// The most bytes that a packet has.
 pub const MOST_BYTES: usize = 1528;
 /// What this crate and the library have to agree on: `VIQ_ABI` of `viqeshor.h`.
-pub const ABI: u32 = 8;
+pub const ABI: u32 = 9;
 
 const DONE: u32 = 0;
 const MEMORY: u32 = 40;
@@ -195,6 +195,39 @@ impl Range {
     fn given(&self) -> raw::Range {
         raw::Range { prefix: self.prefix.into(), length: self.length, rp: self.rp.into() }
     }
+}
+
+/// A set of routers that share an address, the RP of their groups, as one of them knows it (RFC 4610).
+#[derive(Clone, Debug, PartialEq, Eq)]
+pub struct RpSet {
+    /// An address of each router of the set, and the RP of its groups; of no other set.
+    pub shared: Ipv4Addr,
+    /// An address of the router, by which the others know it; shared in no set.
+    pub own: Ipv4Addr,
+    /// Their own addresses: at most 16 hosts', none twice, none of the router.
+    pub others: Vec<Ipv4Addr>,
+}
+
+impl RpSet {
+    // With the pointer to these others, which have to live as long.
+    fn given(&self, others: &[u32]) -> raw::RpSet {
+        raw::RpSet {
+            shared: self.shared.into(),
+            own: self.own.into(),
+            others: others.as_ptr(),
+            other_count: others.len(),
+        }
+    }
+}
+
+/// The others of each set as C takes them.
+fn given_others(sets: &[RpSet]) -> Vec<Vec<u32>> {
+    sets.iter().map(|set| set.others.iter().map(|other| (*other).into()).collect()).collect()
+}
+
+/// Sets as C takes them, with these others, which have to live as long.
+fn given_sets(sets: &[RpSet], others: &[Vec<u32>]) -> Vec<raw::RpSet> {
+    sets.iter().zip(others).map(|(set, others)| set.given(others)).collect()
 }
 
 /// Which hosts of older versions of IGMP an interface hears (RFC 3376, sections 7.3.2 and 9.2).
@@ -354,6 +387,8 @@ numbered! {
         OwnAddresses = 70,
         /// A map of places that doesn't name each interface once.
         PlacesDontFit = 73,
+        /// Sets of RPs that share an address, which the router can't have.
+        BadRpSet = 74,
         /// The bytes are no saved state.
         NotOurs = 60,
         /// The state was saved in another version of its format.
@@ -870,6 +905,14 @@ mod raw {
     }
 
     #[repr(C)]
+    pub struct RpSet {
+        pub shared: u32,
+        pub own: u32,
+        pub others: *const u32,
+        pub other_count: usize,
+    }
+
+    #[repr(C)]
     #[derive(Default)]
     pub struct Packet {
         pub kind: u32,
@@ -993,6 +1036,7 @@ extern "C" {
     fn viq_older(router: *mut c_void, iface: u32, hosts: u32) -> u32;
     fn viq_query_version(router: *mut c_void, iface: u32, version: u32) -> u32;
     fn viq_guard(router: *mut c_void, on: u32) -> u32;
+    fn viq_anycast(router: *mut c_void, sets: *const raw::RpSet, count: usize) -> u32;
     fn viq_older_read(router: *mut c_void) -> u32;
     fn viq_older_rows(router: *const c_void) -> usize;
     fn viq_older_row(router: *const c_void, index: usize, row: *mut raw::OlderRow) -> bool;
@@ -1162,8 +1206,8 @@ impl Router {
     }
 
     /// Makes a router that goes on from the state that `save` returned: the same events and draws bring the same answers
-    /// and packets, once `set_older_hosts` and `set_query_version` have set what they had. It has nothing to send, and its
-    /// guard is on. Bytes that are no saved state of a router are refused, whatever they are.
+    /// and packets, once `set_rp_sets`, `set_older_hosts` and `set_query_version` have set what they had. It has nothing to
+    /// send, and its guard is on. Bytes that are no saved state of a router are refused, whatever they are.
     pub fn restore(saved: &[u8]) -> Result<Router, Error> {
         let mut made = null_mut();
         // SAFETY: the bytes are passed as their pointer and their length, and what points to the router is only written.
@@ -1179,8 +1223,8 @@ impl Router {
     }
 
     /// The state of the router as bytes, of which `restore` makes a router that goes on from it. What isn't in them:
-    /// what the clock showed at timestamp 0, packets that are untaken, and what `set_guard`, `set_older_hosts` and
-    /// `set_query_version` set.
+    /// what the clock showed at timestamp 0, packets that are untaken, and what `set_guard`, `set_rp_sets`,
+    /// `set_older_hosts` and `set_query_version` set.
     pub fn save(&self) -> Result<Vec<u8>, Error> {
         let size = self.save_into(&mut [])?;
         let mut saved = vec![0; size];
@@ -1399,6 +1443,19 @@ impl Router {
     pub fn set_guard(&mut self, is_on: bool) -> Result<(), Error> {
         // SAFETY: the router is there and borrowed alone.
         done(unsafe { viq_guard(self.at_mut(), is_on.into()) })
+    }
+
+    /// Sets the sets of RPs that share an address, in place of those before: none in a new router, and in a restored one.
+    /// A Register to a set's shared address is then sent on to the others, and sources on the router's own links are
+    /// announced to them: at once, and at each timestamp that is a multiple of 60,000 ms. It is no event. An `Err` leaves
+    /// those before: `Refusal::BadRpSet` where the router can't have the sets. `reload` and `reload_places` keep the sets,
+    /// and refuse a configuration so to whose addresses they don't fit.
+    pub fn set_rp_sets(&mut self, sets: &[RpSet]) -> Result<(), Error> {
+        let others = given_others(sets);
+        let given = given_sets(sets, &others);
+        // SAFETY: the router is there and borrowed alone; the list, and in it those of others, are passed as their pointers
+        // and their lengths.
+        done(unsafe { viq_anycast(self.at_mut(), given.as_ptr(), given.len()) })
     }
 
     // ---- older versions of IGMP

@@ -1,5 +1,5 @@
 //! Records of what a router took (docs/LIBRARY.md, "A recording").
-use crate::{done, given_places, raw, Error, Interface, Range, Route, Settings};
+use crate::{done, given_others, given_places, given_sets, raw, Error, Interface, Range, Route, RpSet, Settings};
 
 /// A call that a router took, and what it answered. A field that its kind of call doesn't have isn't read.
 #[repr(C)]
@@ -45,6 +45,14 @@ extern "C" {
     fn viq_record_ranges(
         call: *const Call,
         ranges: *const raw::Range,
+        count: usize,
+        room: *mut u8,
+        room_length: usize,
+        size: *mut usize,
+    ) -> u32;
+    fn viq_record_anycast(
+        call: *const Call,
+        sets: *const raw::RpSet,
         count: usize,
         room: *mut u8,
         room_length: usize,
@@ -120,6 +128,16 @@ impl Call {
         put(to, 12 * ranges.len() + 64, |room, size| {
             // SAFETY: the list and the room are passed as their pointers and their lengths.
             unsafe { viq_record_ranges(self, ranges.as_ptr(), ranges.len(), room.as_mut_ptr(), room.len(), size) }
+        })
+    }
+
+    /// Puts the record of sets of RPs, as `Router::set_rp_sets` takes them, behind others.
+    pub fn put_rp_sets(&self, sets: &[RpSet], to: &mut Vec<u8>) -> Result<(), Error> {
+        let others = given_others(sets);
+        let given = given_sets(sets, &others);
+        put(to, 32 * given.len() + 64, |room, size| {
+            // SAFETY: the list, those of others in it, and the room are passed as their pointers and their lengths.
+            unsafe { viq_record_anycast(self, given.as_ptr(), given.len(), room.as_mut_ptr(), room.len(), size) }
         })
     }
 

@@ -3,7 +3,7 @@ use std::net::Ipv4Addr;
 use viqeshor::{
     message, refused_range, refused_route, ActiveRow, Asks, Call, DownstreamRow, DownstreamState, Error, GroupRow, Hop,
     Interface, NeighbourRow, NoPrefix, OlderHosts, OlderRow, Prefix, Querier, QueryVersion, Range, Reason, Received,
-    Refusal, RefusedAt, Route, Router, Row, Rpf, RptState, Sent, Settings, Table, Target, UpstreamRow, Verdict,
+    Refusal, RefusedAt, Route, Router, Row, RpSet, Rpf, RptState, Sent, Settings, Table, Target, UpstreamRow, Verdict,
     MOST_BYTES,
 };
 
@@ -500,6 +500,12 @@ fn what_is_recorded() {
     assert_eq!(placed[1..behind], put[wanted.len()..][1..behind]);
     let places = [vec![b'm'], words(&[0, 2, u32::MAX, 1]), end.clone()].concat();
     assert_eq!([&placed[..1], &placed[behind..placed.len() - 4]].concat(), places);
+    let set =
+        RpSet { shared: address([10, 9, 9, 9]), own: address([10, 0, 0, 2]), others: vec![address([10, 0, 3, 7])] };
+    let mut sets = Vec::new();
+    Call { answer: 74, ..Call::default() }.put_rp_sets(&[set], &mut sets).unwrap();
+    let wanted = [0, 1, 0x0a09_0909, 0x0a00_0002, 0, 1, 0x0a00_0307, 74, 0];
+    assert_eq!(sets, summed(&[vec![b'y'], words(&wanted)].concat()));
 }
 
 /// These bytes, with their CRC-32 behind them.
@@ -582,6 +588,48 @@ fn the_guard_stops_igmp_in_a_register() {
     assert_eq!(Router::restore(&saved).unwrap().unicast(&bytes_of(REGISTER_OF_A_QUERY), 0), guarded);
     assert_eq!(router.set_guard(true), Ok(()));
     assert_eq!(router.unicast(&bytes_of(REGISTER_OF_A_QUERY), 0), guarded);
+}
+
+/// Of 10.0.3.1, to the shared address.
+const REGISTER_TO_ALL: &str =
+    "45c00038000000003c675d8d0a0003010a0909092100deff000000004500001c0000000040118bca0a000305e10101010001000200080000";
+
+fn sharing() -> Router {
+    let settings = Settings { addresses: vec![address([10, 9, 9, 9])], ..Settings::default() };
+    Router::new(&settings, &interfaces(), &[], &ranges()).unwrap()
+}
+
+#[test]
+fn rps_share_an_address() {
+    let mut router = sharing();
+    let other = address([10, 0, 3, 7]);
+    let set = RpSet { shared: address([10, 9, 9, 9]), own: address([10, 0, 0, 2]), others: vec![other] };
+    let refused = Err(Error::Refused(Refusal::BadRpSet));
+    assert_eq!(router.next_moment(), None);
+    assert_eq!(router.set_rp_sets(&[RpSet { own: other, ..set.clone() }]), refused);
+    assert_eq!(router.set_rp_sets(&[RpSet { others: vec![other; 17], ..set.clone() }]), refused);
+    assert_eq!(router.set_rp_sets(&vec![set.clone(); 136]), refused);
+    assert_eq!(router.set_rp_sets(&[set.clone()]), Ok(()));
+    assert_eq!(router.next_moment(), Some(60_000));
+
+    // One goes on to the other, and then the router answers by a Register-Stop.
+    let register = bytes_of(REGISTER_TO_ALL);
+    assert_eq!(router.unicast(&register, 0), DONE);
+    let sent = taken(&mut router);
+    let targets: Vec<_> = sent.iter().map(|sent| sent.target).collect();
+    assert_eq!(targets, [Target::Unicast(other), Target::Unicast(address([10, 0, 3, 1]))]);
+    assert_eq!((sent[0].bytes[8], &sent[0].bytes[12..16]), (0x3b, &[10, 0, 0, 2][..]));
+    assert_eq!(sent[0].bytes[20..], register[20..]);
+
+    // The sets stay, and refuse a configuration to whose addresses they don't fit.
+    assert_eq!(router.reload(&Settings::default(), &interfaces(), &[], &ranges(), 0), refused);
+    let mut other = Router::restore(&router.save().unwrap()).unwrap();
+    assert_eq!(other.unicast(&register, 0), DONE);
+    assert_eq!(only(taken(&mut other)).target, Target::Unicast(address([10, 0, 3, 1])));
+    assert_eq!(router.set_rp_sets(&[]), Ok(()));
+    assert_eq!(router.unicast(&register, 0), DONE);
+    assert_eq!(only(taken(&mut router)).target, Target::Unicast(address([10, 0, 3, 1])));
+    assert_eq!(router.reload(&Settings::default(), &interfaces(), &[], &ranges(), 0), Ok(()));
 }
 
 /// Of 10.0.1.9, about 239.1.1.1.

@@ -14,11 +14,11 @@ pub mod udp;
 pub mod wire;
 
 pub use frames::{Delivery, Departure, Frame, Frames};
-pub use line::{GuardedLine, MoveLine, PacketLine, Way};
+pub use line::{BadSetsLine, GuardedLine, MoveLine, PacketLine, Way};
 pub use lines::Lines;
 pub use memory::MemoryWire;
 pub use names::Names;
-pub use station::{Reloaded, Station, link_numbers};
+pub use station::{Fronts, Reloaded, Station, link_numbers};
 pub use table::{OlderLine, RowLine};
 pub use trouble::Trouble;
 pub use udp::{UdpWire, failures_after};

@@ -1,4 +1,5 @@
 //! The lines that are printed.
+use pim_anycast::BadRpSet;
 use pim_types::{Addr, Refusal, Verdict};
 use std::fmt;
 
@@ -33,6 +34,22 @@ impl fmt::Display for GuardedLine<'_> {
         let number = self.number;
         let router = self.router;
         write!(f, "move {number} {router} ignored Guarded")
+    }
+}
+
+/// A move by which a router was to get sets of RPs that it can't have.
+#[derive(Clone, Copy)]
+pub struct BadSetsLine<'a> {
+    pub number: usize,
+    pub router: &'a str,
+}
+
+impl fmt::Display for BadSetsLine<'_> {
+    fn fmt<W: fmt::Write>(&self, f: &mut fmt::Formatter<W>) -> fmt::Result {
+        let number = self.number;
+        let router = self.router;
+        let refused = BadRpSet::NUMBER;
+        write!(f, "move {number} {router} refused {refused}")
     }
 }
 

@@ -4,14 +4,23 @@ ghost use Rattle.lab_parts.specs.Stations.{nobody_behind, own_addresses};
 ghost use Rattle.pim_guard.specs.Guard.{is_stopped};
 ghost use Rattle.std.specs.Prelude.{◌≡◌, IfOk, map};
 
-use crate::line::{GuardedLine, MoveLine, PacketLine, Way};
+use crate::line::{BadSetsLine, GuardedLine, MoveLine, PacketLine, Way};
 use igmp_older::{
     OlderHosts, Presence, PresentRow, QueryVersion, ResponseTimes, cut_query, give_query,
 };
+use pim_anycast::Anycast;
 use pim_guard::{stops_frame, stops_unicast};
 use pim_scenario::{FrontText, Link};
 use pim_types::{Addr, Config, Emission, Event, EventKind, IfaceId, Key, Refusal, Series, Verdict};
 use std::alloc::{AllocError, Global};
+
+/// What stands before a router.
+#[derive(Drop)]
+pub struct Fronts {
+    pub text: FrontText,
+    /// The sets of RPs that share an address.
+    pub anycast: Anycast,
+}
 
 /// What the lab knows of another configuration.
 #[derive(Drop)]
@@ -19,7 +28,7 @@ pub struct Reloaded {
     links: Series<Link>,
     addresses: Series<Addr>,
     limit: u32,
-    front: FrontText,
+    fronts: Fronts,
     times: ResponseTimes,
     places: Series<Option<u32>>,
 }
@@ -31,7 +40,7 @@ impl Reloaded {
         alloc: Global,
         config: &Config,
         links: Series<Link>,
-        front: FrontText,
+        fronts: Fronts,
         places: Series<Option<u32>>,
     ) -> Result<Reloaded, AllocError> {
         let addresses = addresses_of(alloc, config)?;
@@ -39,7 +48,7 @@ impl Reloaded {
             links,
             addresses,
             limit: config.limit,
-            front,
+            fronts,
             times: times_of(config),
             places,
         })
@@ -56,6 +65,8 @@ pub struct Station {
     pub addresses: Series<Addr>,
     /// What the router's front knows of older hosts. Where none are heard the front changes nothing.
     pub presence: Presence,
+    /// The router's front for sets of RPs that share an address. Without a set it changes nothing.
+    pub anycast: Anycast,
     /// The version in which the router queries.
     pub version: QueryVersion,
     /// Whether a guard stands before the router.
@@ -70,21 +81,24 @@ impl Station {
         name: String,
         config: &Config,
         links: Series<Link>,
-        front: FrontText,
+        fronts: Fronts,
     ) -> Result<Station, AllocError>
         ensures links { IfOk result (λ station. station.links ≡ links) }
         ensures addresses { IfOk result (λ station. station.addresses ≡ own_addresses config.now) }
-        ensures presence { IfOk result (λ station. station.presence ≡ nobody_behind config.now front.older_hosts) }
+        ensures presence { IfOk result (λ station. station.presence ≡ nobody_behind config.now fronts.text.older_hosts) }
+        ensures sets { IfOk result (λ station. station.anycast ≡ fronts.anycast) }
     {
         let addresses = addresses_of(alloc, config)?;
-        let presence = presence_of(alloc, config, front.older_hosts)?;
+        let Fronts { text, anycast } = fronts;
+        let presence = presence_of(alloc, config, text.older_hosts)?;
         Ok(Station {
             name,
             links,
             addresses,
             presence,
-            version: front.query_version,
-            guard: front.guard,
+            anycast,
+            version: text.query_version,
+            guard: text.guard,
             times: times_of(config),
         })
     }
@@ -96,10 +110,11 @@ impl Station {
             links,
             addresses,
             limit,
-            front,
+            fronts,
             times,
             places,
         } = reloaded;
+        let Fronts { text, anycast } = fronts;
         let count = u32::try_from(links.len()).map_err(|_| AllocError)?;
         if places.is_empty() {
             self.presence.resize(limit as usize, count)?;
@@ -107,9 +122,10 @@ impl Station {
             self.presence
                 .place(limit as usize, count, places.as_slice())?;
         }
-        set_hosts(&mut self.presence, count, front.older_hosts);
-        self.version = front.query_version;
-        self.guard = front.guard;
+        set_hosts(&mut self.presence, count, text.older_hosts);
+        self.anycast = anycast;
+        self.version = text.query_version;
+        self.guard = text.guard;
         self.times = times;
         self.links = links;
         self.addresses = addresses;
@@ -229,6 +245,14 @@ impl Station {
     /// A move that the router's guard stopped.
     pub fn guarded_line(&self, number: usize) -> GuardedLine<'_> {
         GuardedLine {
+            number,
+            router: self.name.as_str(),
+        }
+    }
+
+    /// A move by which the router was to get sets of RPs that it can't have.
+    pub fn bad_sets_line(&self, number: usize) -> BadSetsLine<'_> {
+        BadSetsLine {
             number,
             router: self.name.as_str(),
         }

@@ -1,5 +1,5 @@
 //! What ends a run early, with its status and its message.
-use pim_scenario::{fault, refused};
+use pim_scenario::{ScenarioRefusal, fault, refused};
 use pim_types::{Fault, Refusal};
 use std::alloc::{AllocError, AllocFailed};
 use std::io::{self, Write};
@@ -7,7 +7,7 @@ use std::io::{self, Write};
 /// What ends a run before its last move.
 #[derive(Clone, Copy)]
 pub enum Trouble {
-    Refused(Refusal),
+    Refused(ScenarioRefusal),
     Fault(Fault),
 }
 
@@ -29,11 +29,12 @@ impl Trouble {
 impl From<Refusal> for Trouble {
     ghost use Rattle.std.specs.Prelude.{◌≡◌};
     ghost use Rattle.lab_parts.specs.declared.trouble.Trouble.{Trouble};
+    ghost use Rattle.pim_scenario.specs.declared.complaint.ScenarioRefusal.{ScenarioRefusal};
 
-    ghost from_gives = { λ refusal trouble. trouble ≡ Trouble.Refused refusal };
+    ghost from_gives = { λ refusal trouble. trouble ≡ Trouble.Refused (ScenarioRefusal.Tested refusal) };
 
     fn from(refusal: Refusal) -> Trouble {
-        Trouble::Refused(refusal)
+        Trouble::Refused(ScenarioRefusal::Tested(refusal))
     }
 }
 

@@ -22,6 +22,7 @@
 #![tactic(auto)]
 
 pub mod announce;
+mod configured;
 pub mod front;
 pub mod laws;
 pub mod members;
@@ -31,4 +32,4 @@ pub mod set;
 pub use announce::ANNOUNCEMENT_INTERVAL;
 pub use front::{Anycast, Passed};
 pub use rendezvous::{OwnAddresses, Rendezvous};
-pub use set::{BadRpSet, MOST_OTHERS, RpSet};
+pub use set::{BadRpSet, MOST_OTHERS, RpSet, are_rp_sets};

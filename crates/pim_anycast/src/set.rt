@@ -43,7 +43,7 @@ pub struct BadRpSet;
 
 impl BadRpSet {
     /// The number by which the refusal is known, beside those of [`pim_ip::Refusal`].
-    pub const NUMBER: u8 = 40;
+    pub const NUMBER: u8 = 74;
 }
 
 impl fmt::Display for BadRpSet {
@@ -57,7 +57,7 @@ impl fmt::Display for BadRpSet {
 }
 
 // Whether an address is listed.
-fn is_listed(addresses: &[Addr], address: Addr) -> bool
+pub(crate) fn is_listed(addresses: &[Addr], address: Addr) -> bool
     ensures { result ≡ list_any (λ other. other.bits == address.bits) addresses.now }
 {
     for other in addresses {
@@ -143,7 +143,7 @@ fn are_each<A: OwnAddresses>(own: &A, sets: &[RpSet]) -> bool
 
 /// Whether a router with these addresses can have these sets.
 #[tactic(auto, unfolding(crate::specs::Sets::are_rp_sets))]
-pub(crate) fn are_rp_sets<A: OwnAddresses>(own: &A, sets: &[RpSet]) -> bool
+pub fn are_rp_sets<A: OwnAddresses>(own: &A, sets: &[RpSet]) -> bool
     ensures { result ≡ are_rp_sets (A.configured own.now) sets.now }
 {
     are_each(own, sets) && are_shared_once(sets)

@@ -11,19 +11,21 @@ use Rattle.law_events.{specs.Named.event_named}
 use Rattle.pim_event.{specs.{Costs.IsCheap, Disturbing.event_disturbed, Listing.ListsSame, Replacing.may_differ, Staying.OffersStay}}
 use Rattle.pim_worlds.{specs.Resuming.IsResumable}
 use Rattle.igmp_older_saved.{specs.{Reading.{held_reading, held_restore_test}, Refused.held_refusal_number, Text.{Held, held_text, FitsHeld}, declared.refusal.HeldRefusal.HeldRefusal}}
-use Rattle.pim_router.{specs.{Asked.{LeadsOn, SentIsAsked}, Standing.{Standing, begun, nothing_shown, standing, with_state}}}
+use Rattle.pim_router.{specs.{Asked.LeadsOn, Standing.{Standing, begun, nothing_shown, standing, with_state}}}
 use Rattle.pim_guard.{specs.Guard.is_stopped}
-use Rattle.pim_session.{specs.{Front.{Front, emissions_leaving, front_after, given, hosts_set, interface_test, is_sure, older_rows, version_set}, Leaving.{GoesOnFrom, LeftIsAsked}, Saved.{front_resumed, held_of}, Session.ShownSession, Untaken.{IsStill, has_untaken}}}
+use Rattle.pim_anycast.{specs.{Sets.are_rp_sets, declared.set.RpSet.RpSet}}
+use Rattle.pim_session.{specs.{Front.{Front, hosts_set, interface_test, older_rows, version_set}, Leaving.{GoesOnFrom, LeftIsAsked}, Saved.{front_resumed, held_of}, Session.ShownSession, Shared.{event_in, front_in, is_sure_in, leaving, left_in, seen_in, seen_leaving}, Untaken.{IsStill, has_untaken}}}
 use Rattle.igmp_older.{specs.declared.{mode.OlderRow.OlderRow, setting.{OlderHosts.OlderHosts, QueryVersion.QueryVersion}}}
 use Rattle.pim_types.{specs.declared.{config.Config.Config, event.Event.Event, fact.Key.Key, outcome.Emission.Emission}}
 use Rattle.pim_c.{specs.{Returned.{answer_number, bytes_in, kept_number, name_of, no_interface_number, older_group_of, set_number, c_packet, written_into}, declared.returned.{Forwarding.Forwarding, Interfaces.Interfaces, NamedSource.NamedSource, OlderGroup.OlderGroup, Packet.Packet, PlaneRow.PlaneRow}}}
 
 -- What a session shows of a router that goes on from a state: the guard stands before it, and what was saved of older
--- hosts, if anything was; nothing is kept.
+-- hosts, if anything was; it is in no set of RPs, and nothing is kept.
 abbrev pub restored_shown : Held → ShownSession
 restored_shown h = record {
   router = begun h.state;
   front = front_resumed h.state h.hosts;
+  sets = [];
   guard = true;
   sent = [];
   rows = [];
@@ -47,20 +49,22 @@ Went s r e left = (left.router.standing ≡ Some (standing (step r.state e)))
     × ListsSame left.router.changed (event_named r.state e)
     × (left.router.disturbed ≡ event_disturbed r.state e)
     × OffersStay left.router.disturbed r.state (step r.state e).state
-    × (left.guard ≡ s.guard) × (left.rows ≡ s.rows) × (left.older_rows ≡ s.older_rows)
+    × (left.sets ≡ s.sets) × (left.guard ≡ s.guard) × (left.rows ≡ s.rows) × (left.older_rows ≡ s.older_rows)
 
--- An event goes to the router as it came: no front for older hosts stands before the router. Each copy that leaves has
--- its cause in what led to the router's state.
-abbrev pub Taken : ShownSession → Standing → Event → ShownSession → Type 0
-Taken s r e left = Went s r e left × (left.front ≡ s.front) × (left.sent ≡ (step r.state e).emissions)
-    × IfSome left.router.standing (λ after. SentIsAsked r.state e (step r.state e).answer left.sent after.copies)
+-- The event of a packet that a data plane saw goes to the router as it came. What leaves is what the router sends, and
+-- Null-Registers to the others of a set. Each copy that leaves has its cause in what led to the router's state.
+abbrev pub Taken : ShownSession → Standing → Event → (group source : ℕ) → ShownSession → Type 0
+Taken s r e group source left = Went s r e left × (left.front ≡ s.front) × (left.sent ≡ seen_leaving s r.state e group source)
+    × IfSome left.router.standing (λ after.
+    LeftIsAsked (seen_in s r.state e group source) r.state e (step r.state e).answer left.sent after.copies)
 
--- An event comes to the router through its front for older hosts, which gives it the event `behind`. Each copy that
--- leaves has its cause in what led to the router's state.
-abbrev pub TakenBehind : ShownSession → Standing → Event → Event → ShownSession → Type 0
-TakenBehind s r e behind left = Went s r behind left × (left.front ≡ front_after s.front r.state e)
-    × (left.sent ≡ emissions_leaving s.front (step r.state behind).emissions)
-    × IfSome left.router.standing (λ after. LeftIsAsked s.front r.state behind (step r.state behind).answer left.sent after.copies)
+-- An event comes to the router through what stands before it, for RPs that share an address and for older hosts. Each copy
+-- that leaves has its cause in what led to the router's state.
+abbrev pub TakenBehind : ShownSession → Standing → Event → ShownSession → Type 0
+TakenBehind s r e left = Went s r (event_in s r.state e) left × (left.front ≡ front_in s r.state e)
+    × (left.sent ≡ leaving s r.state e)
+    × IfSome left.router.standing (λ after. LeftIsAsked (left_in s r.state e) r.state (event_in s r.state e)
+    (step r.state (event_in s r.state e)).answer left.sent after.copies)
 
 -- What a call does to a handle and answers: without a router it answers 50; else it does what is said of the session.
 abbrev pub AtSession : (ShownSession → ℕ → ShownSession → Type 0) → Option ShownSession → ℕ → Option ShownSession → Type 0
@@ -76,7 +80,7 @@ UnlessUntaken false s answer left taken = taken
 -- What a session shows after an event that its guard stopped: its router is in the same state and lists nothing as
 -- changed, nothing is to be sent, and all else is as it was.
 abbrev pub Stayed : ShownSession → ShownSession → Type 0
-Stayed s left = IsStill s.router left.router × (left.front ≡ s.front) × (left.guard ≡ s.guard) × (left.sent ≡ s.sent)
+Stayed s left = IsStill s.router left.router × (left.front ≡ s.front) × (left.sets ≡ s.sets) × (left.guard ≡ s.guard) × (left.sent ≡ s.sent)
     × (left.rows ≡ s.rows) × (left.older_rows ≡ s.older_rows)
 
 -- An event that the guard stops doesn't come to the router.
@@ -88,9 +92,8 @@ abbrev pub SteppedFrom : ShownSession → Option Standing → Event → ℕ → 
 SteppedFrom s None e answer left = (answer ≡ 41) × (left ≡ lost s)
 SteppedFrom s (Some r) e answer left = UnlessUntaken (has_untaken s) s answer left (
     UnlessGuarded (is_stopped s.guard e.kind) s answer left (
-    ((answer ≡ answer_number (step r.state (given s.front r.state e)).answer)
-    × TakenBehind s r e (given s.front r.state e) left)
-    ⊎ ((answer ≡ 43) × (left ≡ lost s) × (is_sure s.front r.state e ≡ false))))
+    ((answer ≡ answer_number (step r.state (event_in s r.state e)).answer) × TakenBehind s r e left)
+    ⊎ ((answer ≡ 43) × (left ≡ lost s) × (is_sure_in s r.state e ≡ false))))
 
 -- The event was refused for untaken packets, or the guard stopped it, or the router took it and the answer is the
 -- router's, or an allocation failed.
@@ -111,15 +114,15 @@ Refused (Some s) answer left = (answer ≡ refused_number s.router.standing (has
 abbrev pub Copied : Option ShownSession → Event → ℕ → Option ShownSession → Type 0
 Copied old e answer left = Stepped old e answer left ⊎ Refused old answer left
 
-abbrev pub SeenFrom : ShownSession → Option Standing → Event → ℕ → ShownSession → Type 0
-SeenFrom s None e answer left = (answer ≡ 41) × (left ≡ lost s)
-SeenFrom s (Some r) e answer left = UnlessUntaken (has_untaken s) s answer left (
-    ((answer ≡ answer_number (step r.state e).answer) × Taken s r e left) ⊎ ((answer ≡ 43) × (left ≡ lost s)))
+abbrev pub SeenFrom : ShownSession → Option Standing → Event → (group source : ℕ) → ℕ → ShownSession → Type 0
+SeenFrom s None e group source answer left = (answer ≡ 41) × (left ≡ lost s)
+SeenFrom s (Some r) e group source answer left = UnlessUntaken (has_untaken s) s answer left (
+    ((answer ≡ answer_number (step r.state e).answer) × Taken s r e group source left) ⊎ ((answer ≡ 43) × (left ≡ lost s)))
 
 -- The event that stands for a packet which a data plane saw was refused for untaken packets, or the router took it, or an
 -- allocation failed, whatever the event is.
-abbrev pub Seen : Option ShownSession → Event → ℕ → Option ShownSession → Type 0
-Seen old e answer left = AtSession (λ s. SeenFrom s s.router.standing e) old answer left
+abbrev pub Seen : Option ShownSession → Event → (group source : ℕ) → ℕ → Option ShownSession → Type 0
+Seen old e group source answer left = AtSession (λ s. SeenFrom s s.router.standing e group source) old answer left
 
 abbrev pub SourceKeptFrom : ShownSession → Option Standing → ℕ → ℕ → ℕ → ℕ → ShownSession → Type 0
 SourceKeptFrom s None source group moment answer left = (answer ≡ 41) × (left ≡ lost s)
@@ -195,6 +198,20 @@ GuardSet old is_on answer left = AtSession (λ s. GuardSetFrom s s.router.standi
 abbrev pub GuardSetBy : Option ShownSession → Option Bool → ℕ → Option ShownSession → Type 0
 GuardSetBy old None answer left = (answer ≡ 54) × (left ≡ old)
 GuardSetBy old (Some is_on) answer left = GuardSet old is_on answer left
+
+abbrev pub RpSetsTaken : Bool → ShownSession → List RpSet → ℕ → ShownSession → Type 0
+RpSetsTaken true s sets answer left = (answer ≡ 0) × (left ≡ record s { sets = sets })
+RpSetsTaken false s sets answer left = (answer ≡ 74) × (left ≡ s)
+
+abbrev pub RpSetsSetFrom : ShownSession → Option Standing → List RpSet → ℕ → ShownSession → Type 0
+RpSetsSetFrom s None sets answer left = (answer ≡ 41) × (left ≡ s)
+RpSetsSetFrom s (Some r) sets answer left = RpSetsTaken (are_rp_sets r.state.configured sets) s sets answer left
+
+-- The sets of RPs that share an address were set, if the router can have them; or they were refused, or an allocation
+-- failed for their copy, and nothing changed.
+abbrev pub RpSetsSet : Option ShownSession → List RpSet → ℕ → Option ShownSession → Type 0
+RpSetsSet old sets answer left =
+    AtSession (λ s. RpSetsSetFrom s s.router.standing sets) old answer left ⊎ ((answer ≡ 40) × (left ≡ old))
 
 abbrev pub OlderReadFrom : ShownSession → Option Standing → ℕ → ShownSession → Type 0
 OlderReadFrom s None answer left = (answer ≡ 41) × (left ≡ s)

@@ -1,14 +1,13 @@
 -- What a reload by a map of places does to a handle and answers.
 use Rattle.std.{specs.Prelude.{[], Err, IfSome, None, Ok, Option, Result, Some, ℕ, ◌≡◌, ◌⊎◌}}
 use Rattle.pim_event.{specs.Replacing.NoneReplaced}
-use Rattle.pim_ip.{specs.{Refusal.refusal_number, declared.refusal.Refusal.Refusal}}
 use Rattle.law_states.{specs.{History.Given, Placing.{Places, reload_by}}}
 use Rattle.pim_reloader.{specs.Listing.ListsFacts}
 use Rattle.pim_router.{specs.{Asked.{LeadsOn, places_test}, Standing.{Standing, beginning}}}
-use Rattle.pim_session.{specs.{Front.emissions_leaving, Placed.front_reloaded_by, Session.ShownSession, Untaken.has_untaken}}
+use Rattle.pim_session.{specs.{Front.emissions_leaving, Placed.front_reloaded_by, Session.ShownSession, Shared.reload_tested, Untaken.has_untaken, declared.refused.ReloadRefusal.ReloadRefusal}}
 use Rattle.pim_types.{specs.declared.config.Config.Config}
 use Rattle.pim_state.{specs.declared.touched.Touched.Touched}
-use Rattle.pim_c.{specs.Called.{AtSession, Refused, UnlessUntaken, lost}}
+use Rattle.pim_c.{specs.{Called.{AtSession, Refused, UnlessUntaken, lost}, Returned.reload_number}}
 
 -- What a session shows after its router was put under another configuration by a map of places: what is to be sent is what
 -- that sends, all sources with a fact before or after it are listed, all count as disturbed, and no rows are kept. What led
@@ -18,19 +17,20 @@ PutBy places s r config draw left = (left.router.standing ≡ Some (beginning (r
     × IfSome left.router.standing (λ after. LeadsOn r.state (Given.Placed places config draw) after.state)
     × ListsFacts r.state (reload_by r.state places config draw).0 left.router.changed
     × (left.router.disturbed ≡ record { touched = Touched.All; replaced = NoneReplaced })
-    × (left.front ≡ front_reloaded_by places (reload_by r.state places config draw).0 s.front) × (left.guard ≡ s.guard)
+    × (left.front ≡ front_reloaded_by places (reload_by r.state places config draw).0 s.front) × (left.sets ≡ s.sets)
+    × (left.guard ≡ s.guard)
     × (left.sent ≡ emissions_leaving s.front (reload_by r.state places config draw).1)
     × (left.rows ≡ []) × (left.older_rows ≡ [])
 
--- A configuration or a map that is refused changes nothing.
-abbrev pub PlacedBy : Result (Unit {0}) Refusal → Places → ShownSession → Standing → Config → ℕ → ℕ → ShownSession → Type 0
+-- A configuration or a map that is refused, or a configuration that the sets of RPs don't fit, changes nothing.
+abbrev pub PlacedBy : Result (Unit {0}) ReloadRefusal → Places → ShownSession → Standing → Config → ℕ → ℕ → ShownSession → Type 0
 PlacedBy (Ok _) places s r config draw answer left = (answer ≡ 0) × PutBy places s r config draw left
-PlacedBy (Err refusal) places s r config draw answer left = (answer ≡ refusal_number refusal) × (left ≡ s)
+PlacedBy (Err refusal) places s r config draw answer left = (answer ≡ reload_number refusal) × (left ≡ s)
 
 abbrev pub PlacedFrom : Places → ShownSession → Option Standing → Config → ℕ → ℕ → ShownSession → Type 0
 PlacedFrom places s None config draw answer left = (answer ≡ 41) × (left ≡ lost s)
 PlacedFrom places s (Some r) config draw answer left = UnlessUntaken (has_untaken s) s answer left (
-    PlacedBy (places_test r.state places config) places s r config draw answer left ⊎ ((answer ≡ 43) × (left ≡ lost s)))
+    PlacedBy (reload_tested s.sets config (places_test r.state places config)) places s r config draw answer left ⊎ ((answer ≡ 43) × (left ≡ lost s)))
 
 -- The call was refused for untaken packets, or the router was put under the configuration, or this or the map was refused,
 -- or an allocation failed.

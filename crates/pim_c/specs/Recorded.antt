@@ -3,8 +3,8 @@ use Rattle.std.{specs.{Option.option_map_or, Prelude.{List, None, Option, Some, 
 use Rattle.pim_ifset.{specs.Members.iface_of}
 use Rattle.pim_ip.{specs.Addr.addr}
 use Rattle.pim_types.{specs.declared.{config.Config.Config, event.EventKind.EventKind}}
-use Rattle.pim_saver.{specs.{Records.{Call, Guard, Hosts, Kept, Record, Reloaded, Seen, Version, event_record, front_text, placed_call, record_text, settings_in, summed}, declared.answered.Answered.Answered}}
-use Rattle.pim_c.{specs.{Given.{range_of, route_of}, Returned.written_into, declared.{given.{GivenRange.GivenRange, GivenRoute.GivenRoute}, recorded.GivenCall.GivenCall}}}
+use Rattle.pim_saver.{specs.{Records.{Call, Guard, Hosts, Kept, Record, Reloaded, Seen, Sets, Version, event_record, front_text, placed_call, record_text, settings_in, summed}, declared.answered.Answered.Answered}}
+use Rattle.pim_c.{specs.{Given.{range_of, route_of, rp_set_of}, Returned.written_into, declared.{given.{GivenRange.GivenRange, GivenRoute.GivenRoute, GivenRpSet.GivenRpSet}, recorded.GivenCall.GivenCall}}}
 
 abbrev pub answered_of : GivenCall → Answered
 answered_of c = record { answer = c.answer; sum = c.sum }
@@ -51,6 +51,12 @@ ranges_record c ranges = event_record c.draw (EventKind.Rps (map range_of ranges
 
 abbrev pub ranges_text : GivenCall → List GivenRange → List ℕ
 ranges_text c ranges = record_text (ranges_record c ranges)
+
+abbrev pub rp_sets_record : GivenCall → List GivenRpSet → Record
+rp_sets_record c sets = record { call = Sets (map rp_set_of sets); answered = answered_of c }
+
+abbrev pub rp_sets_text : GivenCall → List GivenRpSet → List ℕ
+rp_sets_text c sets = record_text (rp_sets_record c sets)
 
 abbrev pub reload_record : GivenCall → Config → Record
 reload_record c given = record {

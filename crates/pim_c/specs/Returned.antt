@@ -4,7 +4,8 @@ use Rattle.pim_ip.{specs.{Refusal.refusal_number, declared.{fault.Fault.Fault, r
 use Rattle.pim_types.{specs.declared.{outcome.{Emission.Emission, Ignored.Ignored, Verdict.Verdict}, config.IfaceId.IfaceId, fact.Key.Key}}
 use Rattle.pim_rows.{specs.declared.table.Table.Table}
 use Rattle.igmp_older.{specs.declared.{mode.{Mode.Mode, OlderRow.OlderRow}, setting.{OlderHosts.OlderHosts, QueryVersion.QueryVersion}}}
-use Rattle.pim_session.{specs.declared.stop.Stop.Stop}
+use Rattle.pim_anycast.{specs.declared.set.BadRpSet.BadRpSet}
+use Rattle.pim_session.{specs.declared.{refused.ReloadRefusal.ReloadRefusal, stop.Stop.Stop}}
 use Rattle.pim_c.{specs.declared.returned.{NamedSource.NamedSource, OlderGroup.OlderGroup, Packet.Packet}}
 
 -- The number that stands for a timestamp that doesn't exist.
@@ -54,6 +55,16 @@ kept_number false = 52
 abbrev pub set_number : Result (Unit {0}) Refusal → ℕ
 set_number (Ok _) = 0
 set_number (Err refusal) = refusal_number refusal
+
+-- The number of why a reload isn't done.
+abbrev pub reload_number : ReloadRefusal → ℕ
+reload_number (ReloadRefusal.Configuration refusal) = refusal_number refusal
+reload_number ReloadRefusal.SetsDontFit = 74
+
+-- The number of an answer to sets of RPs.
+abbrev pub rp_sets_number : Result (Unit {0}) BadRpSet → ℕ
+rp_sets_number (Ok _) = 0
+rp_sets_number (Err bad) = 74
 
 abbrev pub older_hosts_of : ℕ → Option OlderHosts
 older_hosts_of number =

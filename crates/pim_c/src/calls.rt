@@ -1,29 +1,29 @@
 //! The functions that C calls. Each takes the session out of the handle, calls it, and puts it back.
 ghost use Rattle.law_plane.specs.Seen.{seen_event};
-ghost use Rattle.pim_c.specs.Called.{CachedWritten, Copied, GuardSetBy, HostsSetBy, KeepAnswered, Made, NameWritten, OffloadWritten, OlderRead, OlderWritten, PacketTaken, ReadBy, Restored, Saved, Seen, Stepped, VersionSetBy, changed_in, cleared, may_differ_in, older_rows_in, packets_in, probes_in, rows_in, standing_in, touched_in};
-ghost use Rattle.pim_c.specs.Given.{config_of, given_event, place_of, range_of, route_of};
+ghost use Rattle.pim_c.specs.Called.{CachedWritten, Copied, GuardSetBy, HostsSetBy, KeepAnswered, Made, NameWritten, OffloadWritten, OlderRead, OlderWritten, PacketTaken, ReadBy, Restored, RpSetsSet, Saved, Seen, Stepped, VersionSetBy, changed_in, cleared, may_differ_in, older_rows_in, packets_in, probes_in, rows_in, standing_in, touched_in};
+ghost use Rattle.pim_c.specs.Given.{config_of, given_event, place_of, range_of, route_of, rp_set_of};
 ghost use Rattle.pim_c.specs.Placed.{PlacedCopy};
-ghost use Rattle.pim_c.specs.Recorded.{Written, given_text, placed_text, ranges_text, reload_text, routes_text};
+ghost use Rattle.pim_c.specs.Recorded.{Written, given_text, placed_text, ranges_text, reload_text, routes_text, rp_sets_text};
 ghost use Rattle.pim_c.specs.Reloaded.{ReloadedCopy};
 ghost use Rattle.pim_c.specs.Rows.{RowWritten};
 ghost use Rattle.pim_c.specs.Returned.{guard_of, never, older_hosts_of, query_version_of, table_of_letter};
 ghost use Rattle.pim_c.specs.Trees.{ValueWritten, link_in, link_of, neighbour_in, neighbour_of, source_tree_in, source_tree_of, tree_in, tree_of};
 ghost use Rattle.pim_ifset.specs.Members.{iface_of};
 ghost use Rattle.pim_model.specs.Judging.{last_moment};
-ghost use Rattle.pim_model.specs.Timers.{next_moment};
 ghost use Rattle.pim_saver.specs.Records.{sum_of};
+ghost use Rattle.pim_session.specs.Shared.{next_in};
 ghost use Rattle.pim_types.specs.declared.event.EventKind.{EventKind};
 ghost use Rattle.std.specs.List.{slice_get};
 ghost use Rattle.std.specs.Option.{option_map_or};
 ghost use Rattle.std.specs.Prelude.{◌≡◌, None, length, map, nat_lt, option_and_then, option_map, unwrap_or};
 
-use crate::given::{self, GivenConfiguration, GivenRange, GivenRoute};
+use crate::given::{self, GivenConfiguration, GivenRange, GivenRoute, GivenRpSet};
 use crate::handle::Handle;
 use crate::recorded::{self, GivenCall};
 use crate::returned::{
     self, DONE, Forwarding, LAST_MOMENT, MEMORY, MOMENT_FAR, NEVER, NO_ROUTER, NO_SETTING,
     NO_TABLE, NamedSource, OlderGroup, Packet, PlaneRow, answer_number, failure_number,
-    kept_number, set_number, stop_number,
+    kept_number, reload_number, rp_sets_number, set_number, stop_number,
 };
 use crate::rows::{CRow, write_row};
 use crate::trees::{
@@ -75,7 +75,7 @@ pub extern "C" fn viq_core_reload(
     router.put(session);
     match answer {
         Ok(Ok(())) => DONE,
-        Ok(Err(refusal)) => u32::from(refusal.number()),
+        Ok(Err(refusal)) => reload_number(refusal),
         Err(stop) => stop_number(stop),
     }
 }
@@ -106,7 +106,7 @@ pub extern "C" fn viq_core_reload_places(
     router.put(session);
     match answer {
         Ok(Ok(())) => DONE,
-        Ok(Err(refusal)) => u32::from(refusal.number()),
+        Ok(Err(refusal)) => reload_number(refusal),
         Err(stop) => stop_number(stop),
     }
 }
@@ -319,10 +319,11 @@ pub extern "C" fn viq_core_copies(alloc: Global, router: &mut Handle) -> u32
     copies
 }
 
-/// The timestamp, in ms, at which the next timer expires, or 2^64 - 1 where none runs.
+/// The timestamp, in ms, at which the next timer expires, or sources are announced to the others of a set, whichever is
+/// sooner, or 2^64 - 1 where neither is so.
 #[unsafe(no_mangle)]
 pub extern "C" fn viq_core_next_moment(alloc: Global, router: &mut Handle) -> u64
-    ensures moment { result ≡ unwrap_or (option_and_then (λ r. next_moment r.state) (standing_in router.old.place.inside)) never }
+    ensures moment { result ≡ unwrap_or (option_and_then next_in router.old.place.inside) never }
     ensures stays { router.new.place.inside ≡ router.old.place.inside }
 {
     let Some(session) = router.take(alloc) else {
@@ -445,6 +446,29 @@ pub extern "C" fn viq_core_guard(alloc: Global, router: &mut Handle, on: u32) ->
     router.put(session);
     match answer {
         Ok(()) => DONE,
+        Err(fault) => u32::from(fault.number()),
+    }
+}
+
+/// Sets the sets of RPs that share an address, in place of those before. If they are refused, those before stay.
+#[unsafe(no_mangle)]
+pub extern "C" fn viq_core_anycast(
+    alloc: Global,
+    router: &mut Handle,
+    sets: &[GivenRpSet<'_>],
+) -> u32
+    ensures { RpSetsSet router.old.place.inside (map rp_set_of sets.now) result router.new.place.inside }
+{
+    let Ok(sets) = given::rp_sets(alloc, sets) else {
+        return MEMORY;
+    };
+    let Some(mut session) = router.take(alloc) else {
+        return NO_ROUTER;
+    };
+    let answer = session.set_rp_sets(sets);
+    router.put(session);
+    match answer {
+        Ok(answer) => rp_sets_number(answer),
         Err(fault) => u32::from(fault.number()),
     }
 }
@@ -693,7 +717,7 @@ pub extern "C" fn viq_core_seen(
     source: u32,
     group: u32,
 ) -> u32
-    ensures { Seen router.old.place.inside (seen_event draw (iface_of iface) group source) result router.new.place.inside }
+    ensures { Seen router.old.place.inside (seen_event draw (iface_of iface) group source) group source result router.new.place.inside }
 {
     let iface = IfaceId { number: iface };
     let source = Addr { bits: source };
@@ -802,6 +826,20 @@ pub extern "C" fn viq_core_record_ranges(
     ensures { Written (ranges_text call.now ranges.now) result size.old size.new room.old room.new }
 {
     recorded::tell(recorded::ranges_record(alloc, call, ranges), room, size)
+}
+
+/// The record of sets of RPs that share an address, written so.
+#[unsafe(no_mangle)]
+pub extern "C" fn viq_core_record_anycast(
+    alloc: Global,
+    call: &GivenCall,
+    sets: &[GivenRpSet<'_>],
+    room: &mut [u8],
+    size: &mut usize,
+) -> u32
+    ensures { Written (rp_sets_text call.now sets.now) result size.old size.new room.old room.new }
+{
+    recorded::tell(recorded::rp_sets_record(alloc, call, sets), room, size)
 }
 
 /// The record of another configuration, written so.

@@ -1,9 +1,10 @@
 //! What a program passes in: the parts of a configuration, and events.
 ghost use Rattle.std.specs.Prelude.{◌≡◌, IfOk, map};
 ghost use Rattle.pim_ip.specs.Addr.{addr};
-ghost use Rattle.pim_c.specs.Given.{config_of, given_event, interface_of, place_of, range_of, route_of};
+ghost use Rattle.pim_c.specs.Given.{config_of, given_event, interface_of, place_of, range_of, route_of, rp_set_of};
 ghost use Rattle.pim_types.specs.declared.event.EventKind.{EventKind};
 
+use pim_anycast::RpSet;
 use pim_types::{
     Addr, Config, Event, EventKind, IfaceId, InterfaceConfig, Prefix, Route, RpRange, Series,
     SptSwitch,
@@ -42,6 +43,15 @@ pub struct GivenRange {
     pub prefix: u32,
     pub length: u32,
     pub rp: u32,
+}
+
+/// A set of RPs that share an address. Which are accepted says `pim_anycast::BadRpSet`.
+#[repr(C)]
+#[derive(Drop)]
+pub struct GivenRpSet<'a> {
+    pub shared: u32,
+    pub own: u32,
+    pub others: &'a [u32],
 }
 
 /// A configuration without its lists, as C's settings begin. The ranges of its values are those of `pim_types::Config`.
@@ -119,7 +129,7 @@ fn range(given: &GivenRange) -> RpRange
     }
 }
 
-// The own addresses of no interface of the configuration that C gives.
+// Addresses that C gives: the router's own of no interface, or those of others of a set.
 fn addresses(alloc: Global, given: &[u32]) -> Result<Series<Addr>, AllocError>
     ensures { IfOk result (λ all. all ≡ map addr given.now) }
 {
@@ -162,6 +172,28 @@ pub fn ranges(alloc: Global, given: &[GivenRange]) -> Result<Series<RpRange>, Al
     let mut all = Series::new(alloc);
     for one in given {
         all.push(range(one))?;
+    }
+    Ok(all)
+}
+
+// A set of RPs that C gives.
+fn rp_set(alloc: Global, given: &GivenRpSet<'_>) -> Result<RpSet, AllocError>
+    ensures { IfOk result (λ set. set ≡ rp_set_of given.now) }
+{
+    Ok(RpSet {
+        shared: Addr { bits: given.shared },
+        own: Addr { bits: given.own },
+        others: addresses(alloc, given.others)?,
+    })
+}
+
+/// Sets of RPs.
+pub fn rp_sets(alloc: Global, given: &[GivenRpSet<'_>]) -> Result<Vec<RpSet>, AllocError>
+    ensures { IfOk result (λ all. all.items ≡ map rp_set_of given.now) }
+{
+    let mut all = Vec::new(alloc);
+    for one in given {
+        all.push(rp_set(alloc, one)?)?;
     }
     Ok(all)
 }

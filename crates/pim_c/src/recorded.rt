@@ -1,8 +1,8 @@
 //! Records of calls, which a program writes one behind the other.
-ghost use Rattle.pim_c.specs.Recorded.{Written, answered_of, given_front, given_text, placed_text, ranges_text, reload_text, routes_text};
+ghost use Rattle.pim_c.specs.Recorded.{Written, answered_of, given_front, given_text, placed_text, ranges_text, reload_text, routes_text, rp_sets_text};
 ghost use Rattle.std.specs.Prelude.{◌≡◌, ◌++◌, IfOk, OnErr, OnOk};
 
-use crate::given::{self, GivenRange, GivenRoute};
+use crate::given::{self, GivenRange, GivenRoute, GivenRpSet};
 use crate::returned::{self, DONE, MEMORY};
 use pim_saver::Answered;
 use pim_types::{Addr, Config, IfaceId};
@@ -99,6 +99,21 @@ pub fn ranges_record(
     let ranges = given::ranges(alloc, ranges)?;
     let mut out = Vec::new(alloc);
     pim_saver::write_ranges(call.draw, ranges.as_slice(), answered(call), &mut out)?;
+    pim_saver::end_record(&mut out)?;
+    Ok(out)
+}
+
+/// The bytes of the record of sets of RPs that share an address.
+pub fn rp_sets_record(
+    alloc: Global,
+    call: &GivenCall,
+    sets: &[GivenRpSet<'_>],
+) -> Result<Vec<u8>, AllocError>
+    ensures { IfOk result (λ bytes. bytes.items ≡ rp_sets_text call.now sets.now) }
+{
+    let sets = given::rp_sets(alloc, sets)?;
+    let mut out = Vec::new(alloc);
+    pim_saver::write_rp_sets(&sets, answered(call), &mut out)?;
     pim_saver::end_record(&mut out)?;
     Ok(out)
 }

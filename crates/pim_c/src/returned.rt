@@ -13,13 +13,14 @@ ghost use Rattle.law_plane.specs.Offered.{Offered as OfferedValue};
 ghost use Rattle.pim_mfc.specs.Shown.{ShowsOffered, TellsOffload};
 ghost use Rattle.pim_state.specs.Shown.{Shows};
 ghost use Rattle.pim_c.specs.Called.{AnswersWritten, NameWritten, OfferWritten, OlderWritten, PacketWritten, forwarding_of, interface_bits, is_copy, plane_row_of};
-ghost use Rattle.pim_c.specs.Returned.{answer_number, bytes_in, guard_of, iface_number, ignored_number, kept_number, link_kind, failure_number, mode_number, name_of, older_group_of, older_hosts_of, query_version_of, set_number, stop_number, c_packet, table_of_letter, verdict_number, written_into};
+ghost use Rattle.pim_c.specs.Returned.{answer_number, bytes_in, guard_of, iface_number, ignored_number, kept_number, link_kind, failure_number, mode_number, name_of, older_group_of, older_hosts_of, query_version_of, reload_number, rp_sets_number, set_number, stop_number, c_packet, table_of_letter, verdict_number, written_into};
 
 use igmp_older::{Mode, OlderHosts, OlderRow, QueryVersion};
+use pim_anycast::BadRpSet;
 use pim_ifset::IfSet;
 use pim_mfc::{CacheRow, Offered};
 use pim_rows::Table;
-use pim_session::Stop;
+use pim_session::{ReloadRefusal, Stop};
 use pim_types::{Emission, Fault, IfaceId, Ignored, Refusal, SourceGroup, Verdict};
 
 /// The event was accepted and done.
@@ -124,6 +125,26 @@ pub fn set_number(answer: Result<(), Refusal>) -> u32
     match answer {
         Ok(()) => DONE,
         Err(refusal) => u32::from(refusal.number()),
+    }
+}
+
+/// The number of why a reload isn't done.
+pub fn reload_number(refusal: ReloadRefusal) -> u32
+    ensures { result ≡ reload_number refusal }
+{
+    match refusal {
+        ReloadRefusal::Configuration(refusal) => u32::from(refusal.number()),
+        ReloadRefusal::SetsDontFit => u32::from(BadRpSet::NUMBER),
+    }
+}
+
+/// The number of an answer to sets of RPs.
+pub fn rp_sets_number(answer: Result<(), BadRpSet>) -> u32
+    ensures { result ≡ rp_sets_number answer }
+{
+    match answer {
+        Ok(()) => DONE,
+        Err(_) => u32::from(BadRpSet::NUMBER),
     }
 }
 

@@ -1,3 +1,5 @@
 pub mod Fronts
-mod Opening
+pub mod Opening
+pub mod Shared
+pub mod Stops
 pub mod Told

@@ -1,2 +1,4 @@
 pub mod Fronts
+pub mod Shared
 pub mod Statuses
+pub mod Stops

@@ -1,4 +1,4 @@
-//! Routers behind their fronts for hosts of versions 1 and 2 of IGMP (RFC 3376, section 7.3.2).
+//! Routers as their fronts ask them, and behind those for hosts of versions 1 and 2 of IGMP (RFC 3376, section 7.3.2).
 ghost use Rattle.std.specs.Prelude.{◌≡◌, ◌∷◌, [], IfOk, OnErr, OnOk, Some};
 ghost use Rattle.igmp_older.specs.Joined.{event_given, joined_step, rows_of};
 ghost use Rattle.igmp_older.specs.Presence.{hosts_on};
@@ -10,9 +10,12 @@ ghost use Rattle.pim_types.specs.declared.outcome.Outcome.{Outcome as OutcomeVal
 ghost use Rattle.pim_lab.specs.Fronts.{IsMarkOf, Stands, behind, marked};
 
 use igmp_older::{Given, Presence, Querier, note_answered, translate};
+use pim_anycast::{OwnAddresses, Rendezvous};
 use pim_net::{Move, Net, NetLog, Router, Wire};
 use pim_types::fact::GroupRecordRow;
-use pim_types::{Addr, Event, EventKind, Fault, IfaceId, Outcome, Refusal, Series, Verdict};
+use pim_types::{
+    Addr, Event, EventKind, Fault, IfaceId, Outcome, Refusal, Series, SourceGroup, Verdict,
+};
 use std::alloc::{AllocError, Global};
 
 /// A router, as its front asks it.
@@ -39,6 +42,49 @@ impl Querier for Asked<'_> {
 
     fn group_record(&self, iface: IfaceId, group: Addr) -> Option<GroupRecordRow> {
         self.router.group_record(iface, group)
+    }
+}
+
+impl OwnAddresses for Asked<'_> {
+    ghost use Rattle.std.specs.Option.{option_map_or};
+    ghost use Rattle.std.specs.Prelude.{[]};
+
+    ghost configured = { λ a. option_map_or (λ r. r.state.configured) a.router.now.standing (record { interfaces = []; addresses = [] }) };
+
+    fn is_own(&self, address: Addr) -> bool {
+        self.router.is_own(address)
+    }
+}
+
+impl Rendezvous for Asked<'_> {
+    ghost use Rattle.pim_anycast.specs.Announced.{is_local, local_keys};
+    ghost use Rattle.std.specs.Option.{option_map_or};
+    ghost use Rattle.std.specs.Prelude.{[], false};
+
+    ghost present = { λ a. option_map_or (λ r. r.state.present) a.router.now.standing 0 };
+
+    ghost ranges = { λ a. option_map_or (λ r. r.state.ranges) a.router.now.standing [] };
+
+    ghost is_local = { λ a g src. option_map_or (λ r. is_local r.state g src) a.router.now.standing false };
+
+    ghost local_keys = { λ a. option_map_or (λ r. local_keys r.state) a.router.now.standing [] };
+
+    fn present_moment(&self) -> u64 {
+        self.router.present_moment()
+    }
+
+    fn rp(&self, group: Addr) -> Option<Addr> {
+        self.router.rp(group)
+    }
+
+    #[tactic(auto, unfolding(pim_anycast::specs::Announced::is_local))]
+    fn is_local(&self, name: SourceGroup) -> bool {
+        self.router.is_local(name)
+    }
+
+    #[tactic(auto, unfolding(pim_anycast::specs::Announced::is_local, pim_anycast::specs::Announced::local_keys))]
+    fn local_sources(&self, alloc: Global) -> Result<Vec<SourceGroup>, AllocError> {
+        self.router.local_sources(alloc)
     }
 }
 

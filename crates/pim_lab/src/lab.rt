@@ -3,16 +3,20 @@ ghost use Rattle.pim_lab.specs.Statuses.{IsFault, IsTroubleOf, router_node, rout
 ghost use Rattle.pim_net.specs.Showing.{node_of};
 ghost use Rattle.std.specs.Prelude.{◌≡◌, IfErr, IfOk, Ok, OnOk, map};
 
-use crate::front::{Asked, run_behind};
-use crate::nodes::{reloaded_of, station_of};
+use crate::front::Asked;
+use crate::nodes::{have_sets, reloaded_of, station_of};
 use crate::saved::Unresumed;
+use crate::shared;
 use igmp_older::Presence;
 use igmp_older_saved::{HostRow, are_held, open_saved, resumed_rows, saved_hosts, write_saved};
-use lab_parts::{Delivery, Frames, Lines, Names, OlderLine, Reloaded, RowLine, Station, Trouble};
-use pim_net::{Net, NetLog, Node, Renewal, Router, Unrestored, Wire};
+use lab_parts::{
+    Delivery, Frames, Fronts, Lines, Names, OlderLine, Reloaded, RowLine, Station, Trouble,
+};
+use pim_anycast::{Anycast, BadRpSet};
+use pim_net::{Net, Node, Renewal, Router, Unrestored, Wire};
 use pim_rows::Table;
 use pim_saver::ReadFault;
-use pim_scenario::{ConfigText, RouterText, ScenarioMove};
+use pim_scenario::{ConfigText, RouterText, ScenarioMove, ScenarioRefusal};
 use pim_types::{Emission, Event, EventKind, Fault, Key, Outcome, Refusal, Series, Verdict};
 use std::alloc::{AllocError, Global};
 
@@ -52,6 +56,7 @@ pub(crate) struct Lab<W> {
 impl<W: Wire> Lab<W> {
     /// The network of a scenario, which prints a router's tables after each of its answers if `tables_each` is set. The
     /// refusal is that of the first test that its routers fail.
+    #[tactic(auto, using(crate::proofs::Opening::opened, crate::proofs::Opening::sets_refused, crate::proofs::Opening::network_refused))]
     pub(crate) fn open(
         alloc: Global,
         texts: Series<RouterText>,
@@ -61,8 +66,12 @@ impl<W: Wire> Lab<W> {
         ensures accepted { OnOk result (routers_test texts ≡ Ok tt) }
         ensures trouble { IfErr result (λ t. IsTroubleOf (routers_test texts) t) }
     {
+        let are_fit = have_sets(texts.as_slice());
         let (stations, nodes) = stations_of(alloc, texts)?;
         let net = Net::new(alloc, nodes, wire)??;
+        if !are_fit {
+            return Err(Trouble::Refused(ScenarioRefusal::RpSets));
+        }
         let names = Names::of(alloc, &stations)?;
         Ok(Lab {
             alloc,
@@ -121,8 +130,11 @@ impl<W: Wire> Lab<W> {
                 next,
                 places,
             } => {
-                let (reloaded, renewal) = self.renewal_of(next, places)?;
-                self.reload(At { number, router }, draw, reloaded, renewal, lines)
+                let at = At { number, router };
+                match self.renewal_of(next, places)? {
+                    Ok((reloaded, renewal)) => self.reload(at, draw, reloaded, renewal, lines),
+                    Err(BadRpSet) => self.refuse_sets(at, lines),
+                }
             }
         }
     }
@@ -159,7 +171,7 @@ impl<W: Wire> Lab<W> {
         }
     }
 
-    // Has the router at a place know the older hosts that were saved with it.
+    // Has the router at a place know the older hosts that were saved with it. Its sets of RPs have to fit its addresses.
     fn resume(
         &mut self,
         place: usize,
@@ -169,6 +181,9 @@ impl<W: Wire> Lab<W> {
         else {
             return Err(Fault::Failed);
         };
+        if !station.anycast.fits(&Asked { router }) {
+            return Ok(Err(Unresumed::RpSets));
+        }
         if !are_held(&Asked { router }, hosts) {
             return Ok(Err(Unresumed::Hosts));
         }
@@ -231,19 +246,41 @@ impl<W: Wire> Lab<W> {
         self.print_each(at, lines)
     }
 
-    // What the lab keeps of another configuration, and what the network gets of it.
+    // Refuses a move by which a router was to get sets of RPs that it can't have.
+    fn refuse_sets(&self, at: At, lines: &mut Lines) -> Result<(), Trouble>
+        ensures { IfErr result (λ t. IsFault t) }
+    {
+        // Each move names one of the routers.
+        let Some(station) = self.stations.get(at.router) else {
+            return Err(Trouble::Fault(Fault::Failed));
+        };
+        lines.push(station.bad_sets_line(at.number))?;
+        self.print_each(at, lines)
+    }
+
+    // What the lab keeps of another configuration, and what the network gets of it. It is refused where the router can't
+    // have its sets of RPs then.
     fn renewal_of(
         &mut self,
         next: ConfigText,
         places: Series<Option<u32>>,
-    ) -> Result<(Reloaded, Renewal), AllocError> {
+    ) -> Result<Result<(Reloaded, Renewal), BadRpSet>, AllocError> {
         let ConfigText {
             config,
             links,
             front,
+            sets,
         } = next;
+        let anycast = match Anycast::of(&config, sets.into_vec()) {
+            Ok(anycast) => anycast,
+            Err(refusal) => return Ok(Err(refusal)),
+        };
+        let fronts = Fronts {
+            text: front,
+            anycast,
+        };
         let links = self.names.links(self.alloc, links)?;
-        reloaded_of(self.alloc, config, links, front, places)
+        Ok(Ok(reloaded_of(self.alloc, config, links, fronts, places)?))
     }
 
     // Keeps what the lab knows of another configuration of a router.
@@ -258,7 +295,7 @@ impl<W: Wire> Lab<W> {
         Ok(())
     }
 
-    // An event at a router, behind its front.
+    // An event at a router, behind its fronts.
     fn happen(&mut self, at: At, event: Event, lines: &mut Lines) -> Result<(), Trouble>
         ensures { IfErr result (λ t. IsFault t) }
     {
@@ -271,12 +308,11 @@ impl<W: Wire> Lab<W> {
             return self.print_each(at, lines);
         }
         let event = station.hear(self.alloc, event)?;
-        let presence = &mut station.presence;
-        let log = run_behind(self.alloc, &mut self.net, at.router, presence, event)?;
-        self.print_all(at, log, lines)
+        let outcome = shared::run(self.alloc, &mut self.net, at.router, station, event)?;
+        self.print_with_tables(at, outcome, lines)
     }
 
-    // Delivers a frame to a router, behind its front.
+    // Delivers a frame to a router, behind its fronts.
     fn deliver(
         &mut self,
         number: usize,
@@ -310,16 +346,6 @@ impl<W: Wire> Lab<W> {
             emissions: Series::new(self.alloc),
             copies: 0,
         }
-    }
-
-    // Prints what became of moves that concern a router, with the tables if they are printed.
-    fn print_all(&mut self, at: At, log: NetLog, lines: &mut Lines) -> Result<(), Trouble>
-        ensures { IfErr result (λ t. IsFault t) }
-    {
-        for outcome in log {
-            self.print_with_tables(at, outcome, lines)?;
-        }
-        Ok(())
     }
 
     // Prints what became of a move, with the tables if they are printed.
@@ -482,11 +508,13 @@ fn packet_of(emission: Emission) -> Series<u8> {
     }
 }
 
-// The place from which on the packets on links are copies: copies are the last packets, except for a packet to the RP.
+// The place from which on the packets on links are copies: copies are the last packets on links.
 fn first_copy(emissions: &[Emission], copies: u32) -> usize {
-    let links = match emissions.split_last() {
-        Some((Emission::Unicast { .. }, before)) if copies > 0 => before.len(),
-        _ => emissions.len(),
-    };
-    links.saturating_sub(copies as usize)
+    let mut end = 0;
+    for (place, emission) in emissions.iter().enumerate() {
+        if matches!(emission, Emission::Link { .. }) {
+            end = place.saturating_add(1);
+        }
+    }
+    end.saturating_sub(copies as usize)
 }

@@ -6,6 +6,7 @@ mod lab;
 mod nodes;
 pub mod playing;
 pub mod saved;
+mod shared;
 
 pub use pim_net::{MemoryWire, Move, Net, NetLog, Node, UdpWire, Wire};
 pub use pim_scenario::{

@@ -1,10 +1,10 @@
 //! Scenarios played from their text.
 ghost use Rattle.pim_ip.specs.declared.fault.Fault.{Fault};
-ghost use Rattle.pim_ip.specs.declared.refusal.Refusal.{Refusal};
 ghost use Rattle.pim_lab.specs.Statuses.{IsAccepted, IsFault, IsRefused, Stops};
 ghost use Rattle.pim_scenario.specs.Complaints.{line_of};
 ghost use Rattle.pim_scenario.specs.Scenario.{IsReadFrom};
 ghost use Rattle.pim_scenario.specs.declared.complaint.Complaint.{Complaint};
+ghost use Rattle.pim_scenario.specs.declared.complaint.ScenarioRefusal.{ScenarioRefusal};
 ghost use Rattle.std.specs.Io.KnownBytes.{Appends};
 ghost use Rattle.std.specs.Prelude.{◌≡◌, ◌⊎◌, IfErr, IfOk, OnOk, codes};
 
@@ -30,7 +30,7 @@ pub fn play<W: Wire, O: Write, E: Write>(
 ) -> u8
     ensures status { (result ≡ 0) ⊎ (result ≡ 2) ⊎ (result ≡ 3) ⊎ (result ≡ 4) }
     ensures done { result ≡ 0 → IsAccepted text.now × (err.new ≡ err.old) }
-    ensures refused { result ≡ 2 → (r : Refusal) × IsRefused text.now r
+    ensures refused { result ≡ 2 → (r : ScenarioRefusal) × IsRefused text.now r
         × Appends (E.contents err.old) (E.contents err.new) (line_of (Complaint.Scenario r)) }
     ensures memory { result ≡ 4
         → Appends (E.contents err.old) (E.contents err.new) (line_of (Complaint.Fault Fault.Memory)) }
@@ -55,7 +55,7 @@ pub fn play_with<W: Wire, O: Write, E: Write>(
 ) -> u8
     ensures status { (result ≡ 0) ⊎ (result ≡ 2) ⊎ (result ≡ 3) ⊎ (result ≡ 4) }
     ensures done { result ≡ 0 → IsAccepted text.now × (err.new ≡ err.old) }
-    ensures refused { result ≡ 2 → (r : Refusal) × IsRefused text.now r
+    ensures refused { result ≡ 2 → (r : ScenarioRefusal) × IsRefused text.now r
         × Appends (E.contents err.old) (E.contents err.new) (line_of (Complaint.Scenario r)) }
     ensures memory { result ≡ 4
         → Appends (E.contents err.old) (E.contents err.new) (line_of (Complaint.Fault Fault.Memory)) }
@@ -76,7 +76,7 @@ pub fn check_text<O: Write, E: Write>(alloc: Global, text: &str, out: &mut O, er
     ensures status { (result ≡ 0) ⊎ (result ≡ 2) ⊎ (result ≡ 3) ⊎ (result ≡ 4) }
     ensures done { result ≡ 0 → IsAccepted text.now
         × Appends (O.contents out.old) (O.contents out.new) (codes "ok\n") × (err.new ≡ err.old) }
-    ensures refused { result ≡ 2 → (r : Refusal) × IsRefused text.now r
+    ensures refused { result ≡ 2 → (r : ScenarioRefusal) × IsRefused text.now r
         × Appends (E.contents err.old) (E.contents err.new) (line_of (Complaint.Scenario r)) × (out.new ≡ out.old) }
     ensures memory { result ≡ 4 → Appends (E.contents err.old) (E.contents err.new)
         (line_of (Complaint.Fault Fault.Memory)) × (out.new ≡ out.old) }

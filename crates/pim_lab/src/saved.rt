@@ -6,6 +6,7 @@ use crate::lab::Lab;
 use crate::playing::{Opened, open_scenario, play_moves, print_tables};
 use igmp_older_saved::HeldRefusal;
 use lab_parts::{Lines, Trouble};
+use pim_anycast::BadRpSet;
 use pim_net::{Unrestored, Wire};
 use pim_scenario::{Complaint, ScenarioMove, Tables};
 use pim_types::{Fault, Series};
@@ -32,6 +33,8 @@ pub(crate) enum Unresumed {
     Router(Unrestored),
     /// The older hosts in the bytes aren't read, or are none that the router can have.
     Hosts,
+    /// The router can't have its sets of RPs in that state.
+    RpSets,
 }
 
 /// What ends a run from saved states, or to one, before its end.
@@ -73,6 +76,10 @@ impl Unresumed {
             }
             Unresumed::Hosts => {
                 let number = HeldRefusal::HostsNotHeld.number();
+                told(err.writeln(format_args!("pimlab: saved state refused: {number}")))
+            }
+            Unresumed::RpSets => {
+                let number = BadRpSet::NUMBER;
                 told(err.writeln(format_args!("pimlab: saved state refused: {number}")))
             }
         }

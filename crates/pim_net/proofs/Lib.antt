@@ -6,5 +6,6 @@ pub mod Nodes
 pub mod Reloads
 pub mod Restored
 pub mod Runs
+pub mod Sending
 pub mod Stations
 pub mod Steps

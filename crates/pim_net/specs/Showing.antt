@@ -1,7 +1,7 @@
 -- What a network shows: the network of the specification, and its wire.
-use Rattle.std.{specs.{Option.option_map_or, Prelude.{List, Option, Some, [], option_and_then, option_map, set, slice_get, suc, zero, ℕ, ◌∷◌}}}
-use Rattle.pim_types.{specs.declared.{config.Config.Config, event.{Event.Event, EventKind.EventKind}}}
-use Rattle.pim_model.{specs.{Network.{Network, Sent, Station, station_at}, State.State}}
+use Rattle.std.{specs.{Option.option_map_or, Prelude.{List, Option, Some, [], map, option_and_then, option_map, set, slice_get, suc, zero, ℕ, ◌++◌, ◌∷◌}}}
+use Rattle.pim_types.{specs.declared.{config.Config.Config, event.{Event.Event, EventKind.EventKind}, outcome.Emission.Emission}}
+use Rattle.pim_model.{specs.{Network.{Network, Sent, Station, sent_by, station_at}, State.State}}
 pub use Rattle.pim_router.{specs.Standing.Standing}
 use Rattle.pim_net.{specs.declared.{node.Node.Node, moves.Move.Move}}
 use Rattle.pim_model.specs.Network as written
@@ -48,6 +48,11 @@ with_bytes_at n zero bytes = n
 with_bytes_at n (suc k) bytes =
     option_map_or (λ (f : Sent). record n { frames = set n.frames k (record f { bytes = bytes }) })
     (slice_get n.frames k) n
+
+-- The network with packets of a router at the end of the frames.
+abbrev pub with_sent_at : Network → ℕ → List Emission → Network
+with_sent_at n r sent =
+    option_map_or (λ (st : Station). record n { frames = n.frames ++ map (sent_by st.links) sent }) (station_at n r) n
 
 -- the state of a router, if there is such a router
 abbrev pub shown_state : Option Network → ℕ → Option State

@@ -7,7 +7,7 @@ ghost use Rattle.pim_net.specs.Asked.{AreAsked, LeadOn};
 ghost use Rattle.pim_net.specs.Carried.{HasMoved, IsPartWay, MovesTo, carried_packet, fetched};
 ghost use Rattle.pim_net.specs.Ports.{first_ports};
 ghost use Rattle.pim_net.specs.Reloading.{reloaded_at};
-ghost use Rattle.pim_net.specs.Showing.{move_of, node_of, shown_state, with_bytes_at, with_state_at};
+ghost use Rattle.pim_net.specs.Showing.{move_of, node_of, shown_state, with_bytes_at, with_sent_at, with_state_at};
 ghost use Rattle.pim_net.specs.declared.moves.Move.{Move};
 ghost use Rattle.pim_net.specs.declared.unrestored.Unrestored.{Unrestored};
 ghost use Rattle.pim_saved.specs.Reading.{reading};
@@ -21,7 +21,7 @@ use crate::node::{Node, Renewal};
 use crate::unrestored::Unrestored;
 use lab_parts::{Wire, carry};
 use pim_router::Router;
-use pim_types::{EventKind, Fault, IfaceId, Outcome, Refusal, Series};
+use pim_types::{Emission, EventKind, Fault, IfaceId, Outcome, Refusal, Series};
 use std::alloc::Global;
 use std::marker::Model;
 
@@ -168,6 +168,25 @@ impl<W: Wire> Net<W> {
         if !self.failed {
             self.network.replace(frame, bytes);
         }
+    }
+
+    /// Adds packets at the end of the frames, as those of a router, counted from 0: what stands before it sends them. Where
+    /// there is no such router nothing changes. A fault is `Memory`, after which the net answers `Failed` from then on.
+    pub fn send(&mut self, router: usize, emissions: &[Emission]) -> Result<(), Fault>
+        ensures network { IfSome self.old.network (λ n. OnOk result
+            (self.new.network ≡ Some (with_sent_at n router emissions.now))) }
+        ensures rest { (self.new.ports ≡ self.old.ports) × (self.new.wire ≡ self.old.wire) }
+        ensures fails { OnErr result (self.new.network ≡ None) }
+        ensures failed { (result ≡ Err Fault.Failed) ↔ (self.old.network ≡ None) }
+        ensures fault { IfSome self.old.network (λ n. IsOkUnless result Fault.Memory) }
+    {
+        if self.failed {
+            return Err(Fault::Failed);
+        }
+        self.failed = true;
+        self.network.send(router, emissions)?;
+        self.failed = false;
+        Ok(())
     }
 
     /// Puts a router, counted from 0, into the state that these bytes say: they are those that a router saved that has as

@@ -9,7 +9,7 @@ ghost use Rattle.pim_model.specs.Step.{outcome_of, step};
 ghost use Rattle.pim_net.specs.Carried.{link_count};
 ghost use Rattle.pim_net.specs.Ports.{first_ports};
 ghost use Rattle.pim_net.specs.Reloading.{done_with, node_test, put_by, refused_as, reloaded_at};
-ghost use Rattle.pim_net.specs.Showing.{brought_on, brought_to, node_of, shown_state, with_bytes_at, with_state_at};
+ghost use Rattle.pim_net.specs.Showing.{brought_on, brought_to, node_of, shown_state, with_bytes_at, with_sent_at, with_state_at};
 ghost use Rattle.pim_net.specs.declared.node.Node.{Node};
 ghost use Rattle.pim_net.specs.declared.unrestored.Unrestored.{Unrestored};
 ghost use Rattle.pim_saved.specs.Reading.{reading};
@@ -204,6 +204,17 @@ impl Network {
         };
         if let Some(sent) = self.frames.get_mut(place as usize) {
             sent.bytes = bytes;
+        }
+    }
+
+    /// Adds packets at the end of the frames, as those that a router sent. Where there is no such router none are added.
+    pub(crate) fn send(&mut self, router: usize, emissions: &[Emission]) -> Result<(), Fault>
+        ensures sent { IfSome self.old (λ net. OnOk result (self.new ≡ Some (with_sent_at net router emissions.now))) }
+        ensures memory { IfErr result (λ fault. fault ≡ Fault.Memory) }
+    {
+        match self.stations.get(router) {
+            Some(station) => keep(self.alloc, station, emissions, &mut self.frames),
+            None => Ok(()),
         }
     }
 

@@ -1,4 +1,5 @@
 mod Accepted
+mod LocalKeys
 mod Offering
 mod Runs
 mod Shown

@@ -45,6 +45,7 @@ ghost use Rattle.std.specs.Vec.{vec_capacity, vec_len};
 mod hosts;
 mod places;
 mod reload;
+mod rendezvous;
 mod saved;
 mod trees;
 

@@ -3,7 +3,8 @@ use Rattle.std.{proofs.{Common.{◌≡◌, ℕ, ◌+◌, ◌≤◌, Bool, true, 
 use Rattle.pim_ip.{specs.declared.addr.Addr.Addr}
 use Rattle.pim_types.{specs.declared.{config.{IfaceId.IfaceId, Route.Route, RpRange.RpRange}, event.EventKind.EventKind}}
 use Rattle.pim_saved.{specs.{Crc.crc32, declared.refusal.SavedRefusal.SavedRefusal, Fits.FitsWord, Laws.AreBytes, Reading.{Reader, iface_at, made, moment_at, word_at}, Text.{moment_text, word_text}}, proofs.{Spelled.{AreBytes-rest, IsSpelled, Takes, Takes-then, bind_ok, both, guard_ok, list, made_of, moment, ok_is, word}, SpelledRows.{address, interface, range, route, settings}, Summed.sum_fits}}
-use Rattle.pim_saver.{specs.{Fits.{FitsAnswered, FitsBytes, FitsCall, FitsEvent, FitsRecord}, RecordLaws.{OneRecording, ReadingIsRecord, RecordIsRead}, Reading.{Configured, PlacedConfigured, answered_at, by_letter, bytes_at, bytes_of_length, call_at, drawn, front_at, kinds, record_at, summed_at}, Records.{Call, Guard, Happened, Hosts, Kept, Placed, Record, Reloaded, Seen, Version, answered_text, bytes_text, call_text, event_text, front_text, record_text}, declared.answered.Answered.Answered}}
+use Rattle.pim_anycast.{specs.declared.set.RpSet.RpSet}
+use Rattle.pim_saver.{specs.{Fits.{FitsAnswered, FitsBytes, FitsCall, FitsEvent, FitsRecord, FitsRpSet}, RecordLaws.{OneRecording, ReadingIsRecord, RecordIsRead}, Reading.{Configured, PlacedConfigured, answered_at, by_letter, bytes_at, bytes_of_length, call_at, drawn, front_at, kinds, record_at, rp_set_at, summed_at}, Records.{Call, Guard, Happened, Hosts, Kept, Placed, Record, Reloaded, Seen, Sets, Version, answered_text, bytes_text, call_text, event_text, front_text, record_text, rp_set_text}, declared.answered.Answered.Answered}}
 
 -- ---- bytes behind their count
 
@@ -34,6 +35,10 @@ counted = record { takes = bytes_take; again = bytes_again }
 
 iface : IsSpelled (λ (i : IfaceId). FitsWord i.number) (λ (i : IfaceId). word_text i.number) iface_at
 iface = made_of (λ (n : ℕ). record { number = n }) (λ (i : IfaceId). i.number) (λ n. refl) (λ i. refl) word
+
+rp_set : IsSpelled FitsRpSet rp_set_text rp_set_at
+unfolding rp_set_text FitsRpSet
+rp_set = made_of (λ (p : Addr × (Addr × List Addr)). record { shared = p.0; own = p.1.0; others = p.1.1 }) (λ (set : RpSet). (set.shared, (set.own, set.others))) (λ p. refl) (λ set. refl) (both address (both address (list address)))
 
 -- ---- each kind of call
 
@@ -81,7 +86,10 @@ taken = (
                           kind_takes (λ (p : IfaceId × ℕ). Version p.0 p.1) (both iface word) 113 (λ p. refl) (λ p f. f),
                           (
                             kind_takes (λ (n : ℕ). Guard n) word 100 (λ n. refl) (λ n f. f),
-                            tt,
+                            (
+                              kind_takes (λ (sets : List RpSet). Sets sets) (list rp_set) 121 (λ sets. refl) (λ sets f. f),
+                              tt,
+                            ),
                           ),
                         ),
                       ),
@@ -131,6 +139,7 @@ call_again (Kept source group m) rest fits = kind_again (λ (p : Addr × (Addr �
 call_again (Hosts i hosts) rest fits = kind_again (λ (p : IfaceId × ℕ). Hosts p.0 p.1) (both iface word) (i, hosts) rest fits
 call_again (Version i version) rest fits = kind_again (λ (p : IfaceId × ℕ). Version p.0 p.1) (both iface word) (i, version) rest fits
 call_again (Guard is_on) rest fits = kind_again (λ (n : ℕ). Guard n) word is_on rest fits
+call_again (Sets sets) rest fits = kind_again (λ (sets : List RpSet). Sets sets) (list rp_set) sets rest fits
 
 -- ---- records
 

@@ -2,7 +2,8 @@
 use Rattle.std.{specs.Prelude.{List, length, ℕ, ◌<◌, ◌^◌}}
 use Rattle.pim_types.{specs.declared.event.EventKind.EventKind}
 use Rattle.pim_saved.{specs.Fits.{FitsAddress, FitsInterface, FitsList, FitsMoment, FitsRange, FitsRoute, FitsSettings, FitsWord}}
-use Rattle.pim_saver.{specs.{Records.{Call, Guard, Happened, Hosts, Kept, Placed, Record, Reloaded, Seen, Version}, declared.answered.Answered.Answered}}
+use Rattle.pim_anycast.{specs.declared.set.RpSet.RpSet}
+use Rattle.pim_saver.{specs.{Records.{Call, Guard, Happened, Hosts, Kept, Placed, Record, Reloaded, Seen, Sets, Version}, declared.answered.Answered.Answered}}
 
 abbrev pub FitsBytes : List ℕ → Type 0
 FitsBytes bytes = length bytes < 2 ^ 64
@@ -15,6 +16,9 @@ FitsEvent draw (EventKind.Up iface) = FitsWord draw × FitsWord iface.number
 FitsEvent draw (EventKind.Down iface) = FitsWord draw × FitsWord iface.number
 FitsEvent draw (EventKind.Routes routes) = FitsWord draw × FitsList FitsRoute routes
 FitsEvent draw (EventKind.Rps ranges) = FitsWord draw × FitsList FitsRange ranges
+
+unfoldable pub FitsRpSet : RpSet → Type 0
+FitsRpSet set = FitsAddress set.shared × (FitsAddress set.own × FitsList FitsAddress set.others)
 
 abbrev pub FitsCall : Call → Type 0
 FitsCall (Happened event) = FitsEvent event.draw event.kind
@@ -30,6 +34,7 @@ FitsCall (Kept source group moment) = FitsAddress source × (FitsAddress group �
 FitsCall (Hosts iface hosts) = FitsWord iface.number × FitsWord hosts
 FitsCall (Version iface version) = FitsWord iface.number × FitsWord version
 FitsCall (Guard is_on) = FitsWord is_on
+FitsCall (Sets sets) = FitsList FitsRpSet sets
 
 abbrev pub FitsAnswered : Answered → Type 0
 FitsAnswered a = FitsWord a.answer × FitsWord a.sum

@@ -3,7 +3,8 @@ use Rattle.std.{specs.Prelude.{Err, List, Ok, [], drop, if◌then◌else◌, len
 use Rattle.pim_ip.{specs.declared.addr.Addr.Addr}
 use Rattle.pim_types.{specs.declared.{config.{IfaceId.IfaceId, InterfaceConfig.InterfaceConfig, Route.Route, RpRange.RpRange, Settings.Settings}, event.EventKind.EventKind}}
 use Rattle.pim_saved.{specs.{Crc.crc32, Reading.{Reader, address_at, iface_at, in_turn, interface_at, list_at, made, moment_at, range_at, route_at, settings_at, word_at, ◌>>=◌}, declared.refusal.SavedRefusal.SavedRefusal}}
-use Rattle.pim_saver.{specs.{Records.{Call, Guard, Happened, Hosts, Kept, Placed, Record, Reloaded, Seen, Version, front_text}, declared.answered.Answered.Answered}}
+use Rattle.pim_anycast.{specs.declared.set.RpSet.RpSet}
+use Rattle.pim_saver.{specs.{Records.{Call, Guard, Happened, Hosts, Kept, Placed, Record, Reloaded, Seen, Sets, Version, front_text}, declared.answered.Answered.Answered}}
 
 abbrev pub bytes_of_length : ℕ → Reader (List ℕ)
 bytes_of_length n bytes = if nat_lt (length bytes) n then Err SavedRefusal.CutShort else Ok (take n bytes, drop n bytes)
@@ -26,6 +27,12 @@ Configured = ℕ × (Settings × (List InterfaceConfig × (List Addr × (List Ro
 abbrev pub PlacedConfigured : Type 0
 PlacedConfigured = ℕ × (Settings × (List InterfaceConfig × (List Addr × (List Route × (List RpRange × List ℕ)))))
 
+-- a set of RPs that share an address
+abbrev pub rp_set_at : Reader RpSet
+rp_set_at bytes =
+    made (λ (p : Addr × (Addr × List Addr)). record { shared = p.0; own = p.1.0; others = p.1.1 })
+    (in_turn address_at (in_turn address_at (list_at address_at))) bytes
+
 -- each kind of call: its letter, and what is behind it
 abbrev pub kinds : List (ℕ × Reader Call)
 kinds =
@@ -43,6 +50,7 @@ kinds =
     ∷ (111, made (λ (p : IfaceId × ℕ). Hosts p.0 p.1) (in_turn iface_at word_at))
     ∷ (113, made (λ (p : IfaceId × ℕ). Version p.0 p.1) (in_turn iface_at word_at))
     ∷ (100, made (λ (n : ℕ). Guard n) word_at)
+    ∷ (121, made (λ (sets : List RpSet). Sets sets) (list_at rp_set_at))
     ∷ []
 
 abbrev pub by_letter : List (ℕ × Reader Call) → ℕ → Reader Call

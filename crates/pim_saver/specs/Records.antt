@@ -4,6 +4,7 @@ use Rattle.std.{specs.{List.flat_map, Prelude.{List, [], length, ℕ, ◌∷◌}
 use Rattle.pim_ip.{specs.declared.addr.Addr.Addr}
 use Rattle.pim_types.{specs.declared.{config.{Config.Config, IfaceId.IfaceId, InterfaceConfig.InterfaceConfig, Route.Route, RpRange.RpRange, Settings.Settings}, event.{Event.Event, EventKind.EventKind}, outcome.Emission.Emission}}
 use Rattle.pim_saved.{specs.{Crc.{after_bytes, crc32}, Text.{address_text, interface_text, list_text, moment_text, range_text, route_text, settings_text, word_text, ◌then◌}}}
+use Rattle.pim_anycast.{specs.declared.set.RpSet.RpSet}
 use Rattle.pim_saver.{specs.declared.answered.Answered.Answered}
 
 -- what a router was given
@@ -24,6 +25,8 @@ pub data Call : Type 0 where
   Version : (iface : IfaceId) (version : ℕ) → Call
   -- whether the guard is on, by its number
   Guard : (is_on : ℕ) → Call
+  -- the sets of RPs that share an address
+  Sets : (sets : List RpSet) → Call
 
 -- a record: a call, and what was answered
 pub record Record : Type 0 where
@@ -48,6 +51,10 @@ placed_call draw c places = Placed draw (settings_in c) c.interfaces c.addresses
 -- bytes behind their number
 abbrev pub bytes_text : List ℕ → List ℕ
 bytes_text bytes = moment_text (length bytes) then bytes
+
+-- the bytes of a set of RPs that share an address
+unfoldable pub rp_set_text : RpSet → List ℕ
+rp_set_text set = address_text set.shared then address_text set.own then list_text address_text set.others
 
 -- the bytes of an event in a record: the letter of its kind, its draw, and what it brings
 abbrev pub event_text : ℕ → EventKind → List ℕ
@@ -76,6 +83,7 @@ call_text (Kept source group moment) = 107 ∷ (address_text source then address
 call_text (Hosts iface hosts) = 111 ∷ (word_text iface.number then word_text hosts)
 call_text (Version iface version) = 113 ∷ (word_text iface.number then word_text version)
 call_text (Guard is_on) = 100 ∷ word_text is_on
+call_text (Sets sets) = 121 ∷ list_text rp_set_text sets
 
 -- the bytes of an answer in a record: its number, and the sum of what was sent
 abbrev pub answered_text : Answered → List ℕ

@@ -1,11 +1,15 @@
 //! A record written: what it says, and then its sum.
-ghost use Rattle.pim_saver.specs.Fits.{FitsBytes, FitsRecord};
-ghost use Rattle.pim_saver.specs.Records.{Guard, Hosts, Kept, Reloaded, Seen, Version, bytes_text, event_record, front_text, placed_call, settings_in, summed};
+ghost use Rattle.pim_saved.specs.Fits.{FitsList};
+ghost use Rattle.pim_saved.specs.Text.{list_text};
+ghost use Rattle.pim_saver.specs.Fits.{FitsBytes, FitsRecord, FitsRpSet};
+ghost use Rattle.pim_saver.specs.Records.{Guard, Hosts, Kept, Reloaded, Seen, Sets, Version, bytes_text, event_record, front_text, placed_call, rp_set_text, settings_in, summed};
 ghost use Rattle.pim_types.specs.declared.event.EventKind.{EventKind as EventValue};
+ghost use Rattle.std.specs.List.{AllByRecursion, flat_map};
 ghost use Rattle.std.specs.Prelude.{◌≡◌, ◌++◌, OnOk};
 
 use crate::answered::Answered;
 use crate::{Saved, write_list, write_sum};
+use pim_anycast::RpSet;
 use pim_types::{Addr, Config, IfaceId, InterfaceConfig, Route, RpRange, Settings};
 use std::alloc::AllocError;
 
@@ -296,6 +300,45 @@ pub fn write_guard(is_on: u32, answered: Answered, out: &mut Vec<u8>) -> Result<
 {
     out.push(b'd')?;
     is_on.write(out)?;
+    answered.write(out)?;
+    Ok(())
+}
+
+// Puts the bytes of a set of RPs at the end.
+#[tactic(auto, unfolding(crate::specs::Records::rp_set_text, crate::specs::Fits::FitsRpSet))]
+fn write_rp_set(set: &RpSet, out: &mut Vec<u8>) -> Result<(), AllocError>
+    ensures ok { OnOk result (out.new.items ≡ out.old.items ++ rp_set_text set.now) }
+    ensures fitting { OnOk result (FitsRpSet set.now) }
+{
+    set.shared.write(out)?;
+    set.own.write(out)?;
+    write_list(set.others.as_slice(), out)?;
+    Ok(())
+}
+
+// Puts the bytes of each set at the end.
+fn write_each_rp_set(sets: &[RpSet], out: &mut Vec<u8>) -> Result<(), AllocError>
+    ensures ok { OnOk result (out.new.items ≡ out.old.items ++ flat_map rp_set_text sets.now) }
+    ensures fitting { OnOk result (AllByRecursion FitsRpSet sets.now) }
+{
+    for set in sets {
+        write_rp_set(set, out)?;
+    }
+    Ok(())
+}
+
+/// Puts the record of the sets of RPs that share an address behind what is there.
+pub fn write_rp_sets(
+    sets: &[RpSet],
+    answered: Answered,
+    out: &mut Vec<u8>,
+) -> Result<(), AllocError>
+    ensures ok { OnOk result (out.new.items ≡ out.old.items ++ front_text (record { call = Sets sets.now; answered = answered })) }
+    ensures fitting { OnOk result (FitsRecord (record { call = Sets sets.now; answered = answered })) }
+{
+    out.push(b'y')?;
+    (sets.len() as u64).write(out)?;
+    write_each_rp_set(sets, out)?;
     answered.write(out)?;
     Ok(())
 }

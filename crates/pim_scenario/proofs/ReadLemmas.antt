@@ -11,7 +11,7 @@ zip_push R (a ∷ as') [] x y all one = absurd all
 zip_push R (a ∷ as') (b ∷ bs) x y all one = (all.0, zip_push R as' bs x y all.1 one)
 
 -- one more value was read
-zip_kept : {A B : Type 0} (R : A → B → Type 0) (xs : List A) (ys new : List B) (i : ℕ) (x : A) (y : B)
+pub zip_kept : {A B : Type 0} (R : A → B → Type 0) (xs : List A) (ys new : List B) (i : ℕ) (x : A) (y : B)
     → i < length xs → x ≡ get_or xs i x → new ≡ ys ++ y ∷ [] → AllZip R (take i xs) ys → R x y
     → AllZip R (take (i + 1) xs) new
 zip_kept {A} {B} R xs ys new i x y below here put all one =
@@ -27,7 +27,7 @@ zip_map R f (a ∷ as') [] all = absurd all
 zip_map R f (a ∷ as') (b ∷ bs) all = (all.0, zip_map R f as' bs all.1)
 
 -- all values were read
-zip_done : {A B C : Type 0} (R : C → B → Type 0) (f : A → C) (xs : List A) (ys : List B) (i : ℕ)
+pub zip_done : {A B C : Type 0} (R : C → B → Type 0) (f : A → C) (xs : List A) (ys : List B) (i : ℕ)
     → length xs ≤ i → AllZip (λ x y. R (f x) y) (take i xs) ys → AllZip R (map f xs) ys
 zip_done {A} {B} {C} R f xs ys i past all =
     zip_map R f xs ys (subst (λ (l : List A). AllZip (λ x y. R (f x) y) l ys) (take_all i xs past) all)
@@ -46,7 +46,7 @@ zip_one R (c ∷ cs) [] i d below all = absurd all
 zip_one R (c ∷ cs) (y ∷ ys) i d below all = (get_or (y ∷ ys) i y, zip_get R (c ∷ cs) (y ∷ ys) i d y below all)
 
 -- what was read at one place
-zip_at : {A B C : Type 0} (R : C → B → Type 0) (f : A → C) (xs : List A) (i : ℕ) (x : A)
+pub zip_at : {A B C : Type 0} (R : C → B → Type 0) (f : A → C) (xs : List A) (i : ℕ) (x : A)
     → i < length xs → x ≡ get_or xs i x → (ys : List B) → AllZip R (map f xs) ys → (y : B) × R (f x) y
 zip_at {A} {B} {C} R f xs i x below here ys all =
     let same : get_or (map f xs) i (f x) ≡ f x = get_or-map f xs i x (f x) below ∙ ap f (sym here) in

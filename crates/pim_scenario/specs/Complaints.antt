@@ -1,8 +1,13 @@
 -- What is reported where something went wrong.
 use Rattle.std.{specs.{Io.KnownBytes.Appends, Prelude.{ℕ, List, Option, ◌++◌, ◌≡◌, ◌⊎◌, codes, decimal}}}
 use Rattle.pim_ip.{specs.{Refusal.refusal_number, declared.fault.Fault.{Fault, TheVariants.{Memory, Failed, Wire}}}}
-use Rattle.pim_scenario.{specs.declared.complaint.Complaint.Complaint}
+use Rattle.pim_scenario.{specs.declared.complaint.{Complaint.Complaint, ScenarioRefusal.ScenarioRefusal}}
 use Rattle.pim_scenario.specs.declared.complaint.Complaint.TheVariants as complaint
+
+-- The number by which the refusal of a scenario is known in printed lines.
+abbrev pub scenario_refusal_number : ScenarioRefusal → ℕ
+scenario_refusal_number (ScenarioRefusal.Tested refusal) = refusal_number refusal
+scenario_refusal_number ScenarioRefusal.RpSets = 74
 
 -- The status with which the program ends after a fault.
 abbrev pub fault_status : Fault → ℕ
@@ -32,7 +37,7 @@ complaint_text (complaint.File name) = codes "pimlab: cannot read " ++ name.now
 complaint_text (complaint.Unwritten name) = codes "pimlab: cannot write " ++ name.now
 complaint_text (complaint.Router name) = codes "pimlab: no router " ++ name.now
 complaint_text (complaint.Scenario refusal) =
-    codes "pimlab: scenario refused: " ++ decimal (refusal_number refusal)
+    codes "pimlab: scenario refused: " ++ decimal (scenario_refusal_number refusal)
 complaint_text (complaint.Fault fault) = fault_text fault
 
 -- The line, with its line break.

@@ -4,6 +4,7 @@ use Rattle.toml.{specs.{Parse.parse_document, Data.{Data, Members, as_str, as_ta
 use Rattle.pim_ip.{specs.declared.addr.Addr.Addr}
 use Rattle.pim_types.{specs.declared.{config.{Config.Config, InterfaceConfig.InterfaceConfig, Route.Route, RpRange.RpRange, SptSwitch.{SptSwitch, TheVariants.{Always, Never}}}, event.EventKind.EventKind}}
 use Rattle.igmp_older.{specs.declared.setting.{OlderHosts.OlderHosts, QueryVersion.QueryVersion}}
+use Rattle.pim_anycast.{specs.declared.set.RpSet.RpSet}
 use Rattle.pim_scenario.{specs.{declared.scenario.{ConfigText.ConfigText, FrontText.FrontText, Link.Link, RouterText.RouterText, ScenarioMove.{ScenarioMove, TheVariants.{Event, Deliver, Carry, Reload, Restart, Settle}}, Scenario.Scenario}, Fields.{has_only, table_at, text_at, optional_text, number_at, number_or, moment_at, list_at, list_or_empty}, Texts.{IsNumberText, IsAddressText, IsPrefixText, hex_of}, Words.AreWords}}
 use Rattle.pim_types.specs.declared.event.EventKind.TheVariants as event
 
@@ -40,6 +41,12 @@ AreRouteWords _ r = ⊥
 abbrev pub AreRpWords : List (List ℕ) → RpRange → Type 0
 AreRpWords (prefix ∷ rp ∷ []) r = IsPrefixText prefix r.prefix × IsAddressText rp r.rp
 AreRpWords _ r = ⊥
+
+-- `shared own other ..`, with any number of others
+abbrev pub AreSetWords : List (List ℕ) → RpSet → Type 0
+AreSetWords (shared ∷ own ∷ others) s =
+    IsAddressText shared s.shared × IsAddressText own s.own × AllZip IsAddressText others s.others
+AreSetWords _ s = ⊥
 
 -- the value is a text, and its words are read so
 pub record IsText {X : Type 0} (Say : List (List ℕ) → X → Type 0) (d : Data) (x : X) : Type 0 where
@@ -135,7 +142,7 @@ abbrev pub router_keys : List (List ℕ)
 router_keys =
     codes "name" ∷ codes "iface" ∷ codes "limit" ∷ codes "spt" ∷ codes "rv" ∷ codes "qi" ∷ codes "qri"
     ∷ codes "lmqi" ∷ codes "older_hosts" ∷ codes "query_version" ∷ codes "guard"
-    ∷ codes "addresses" ∷ codes "routes" ∷ codes "rps" ∷ []
+    ∷ codes "anycast" ∷ codes "addresses" ∷ codes "routes" ∷ codes "rps" ∷ []
 
 -- A table `router` is a router with its name, its links and its configuration.
 pub record IsRouter (ms : Members) (r : RouterText) : Type 0 where
@@ -145,6 +152,7 @@ pub record IsRouter (ms : Members) (r : RouterText) : Type 0 where
   pub links : AreRead (IsTable IsLink) (list_at (codes "iface") ms) r.links
   pub config : IsConfig ms r.config
   pub front : front_at ms ≡ Some r.front
+  pub sets : AreRead (IsText AreSetWords) (list_or_empty (codes "anycast") ms) r.sets
 
 -- ---- another configuration of a router
 
@@ -152,8 +160,8 @@ pub record IsRouter (ms : Members) (r : RouterText) : Type 0 where
 abbrev pub config_keys : List (List ℕ)
 config_keys =
     codes "iface" ∷ codes "limit" ∷ codes "spt" ∷ codes "rv" ∷ codes "qi" ∷ codes "qri" ∷ codes "lmqi"
-    ∷ codes "older_hosts" ∷ codes "query_version" ∷ codes "guard" ∷ codes "addresses" ∷ codes "routes"
-    ∷ codes "rps" ∷ []
+    ∷ codes "older_hosts" ∷ codes "query_version" ∷ codes "guard" ∷ codes "anycast" ∷ codes "addresses"
+    ∷ codes "routes" ∷ codes "rps" ∷ []
 
 abbrev pub NamesLink : {Z : Type 0} → Members → String Z → Type 0
 NamesLink ms name = text_at (codes "link") ms ≡ Some (string_bytes name)
@@ -165,6 +173,7 @@ pub record IsConfigText (ms : Members) (c : ConfigText) : Type 0 where
   pub links : AreRead (IsTable NamesLink) (list_at (codes "iface") ms) c.links
   pub config : IsConfig ms c.config
   pub front : front_at ms ≡ Some c.front
+  pub sets : AreRead (IsText AreSetWords) (list_or_empty (codes "anycast") ms) c.sets
 
 -- ---- the routers of a scenario
 

@@ -1,12 +1,34 @@
 //! The message where something went wrong: one line on standard error, and the status.
 ghost use Rattle.std.specs.Prelude.{◌≡◌, Some, OnOk};
 ghost use Rattle.std.specs.Io.KnownBytes.{Appends};
-ghost use Rattle.pim_scenario.specs.Complaints.{IsTold, line_of, status_of};
+ghost use Rattle.pim_scenario.specs.Complaints.{IsTold, line_of, scenario_refusal_number, status_of};
 ghost use Rattle.pim_scenario.specs.declared.complaint.Complaint.{Complaint};
 
+use pim_anycast::BadRpSet;
 use pim_types::{Fault, Refusal};
 use std::io::Write;
 use std::{fmt, io};
+
+/// Why a scenario is refused.
+#[derive(Clone, Copy)]
+pub enum ScenarioRefusal {
+    /// Its text, or a configuration in it, fails a test.
+    Tested(Refusal),
+    /// A router can't have its sets of RPs that share an address.
+    RpSets,
+}
+
+impl ScenarioRefusal {
+    /// The number by which the refusal is known in printed lines.
+    pub fn number(self) -> u8
+        ensures { result ≡ scenario_refusal_number self }
+    {
+        match self {
+            ScenarioRefusal::Tested(refusal) => refusal.number(),
+            ScenarioRefusal::RpSets => BadRpSet::NUMBER,
+        }
+    }
+}
 
 /// What went wrong.
 #[derive(Clone, Copy)]
@@ -20,7 +42,7 @@ pub enum Complaint<'a> {
     /// The scenario has no router of this name.
     Router(&'a str),
     /// The scenario is refused.
-    Scenario(Refusal),
+    Scenario(ScenarioRefusal),
     Fault(Fault),
 }
 
@@ -81,7 +103,7 @@ impl fmt::Display for Complaint<'_> {
 }
 
 /// Reports that a scenario is refused, and returns the status: 2, or as [`Complaint::tell`] says.
-pub fn refused<W: Write>(err: &mut W, refusal: Refusal) -> u8
+pub fn refused<W: Write>(err: &mut W, refusal: ScenarioRefusal) -> u8
     ensures { IsTold (Complaint.Scenario refusal) result (W.contents err.old) (W.contents err.new) }
 {
     Complaint::Scenario(refusal).tell(err)

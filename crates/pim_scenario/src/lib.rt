@@ -8,7 +8,7 @@ pub mod file;
 pub mod scenario;
 
 pub use command_line::{Answer, Command, Tables, WireKind, Words, read_words};
-pub use complaint::{Complaint, fault, refused};
+pub use complaint::{Complaint, ScenarioRefusal, fault, refused};
 pub use file::load;
 pub use scenario::{
     ConfigText, FrontText, Link, RouterText, Scenario, ScenarioMove, read_scenario,

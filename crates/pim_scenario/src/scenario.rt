@@ -16,9 +16,11 @@ mod places;
 mod reload;
 mod router;
 mod routes;
+mod sets;
 mod words;
 
 use igmp_older::{OlderHosts, QueryVersion};
+use pim_anycast::RpSet;
 use pim_types::{Config, Event, Fault, IfaceId, Refusal, Series};
 use std::alloc::{AllocError, AllocFailed, Global};
 use toml::Table;
@@ -51,6 +53,8 @@ pub struct RouterText {
     /// The link of each interface.
     pub links: Series<Link>,
     pub front: FrontText,
+    /// The sets of RPs that share an address, as the scenario has them: they haven't been tested yet.
+    pub sets: Series<RpSet>,
 }
 
 /// Another configuration of a router.
@@ -61,6 +65,8 @@ pub struct ConfigText {
     /// The name of the link of each interface.
     pub links: Series<String>,
     pub front: FrontText,
+    /// The sets of RPs that share an address, as the scenario has them: they haven't been tested yet.
+    pub sets: Series<RpSet>,
 }
 
 /// What a scenario requests. A router is named by its place among the routers, from 0, and a frame by its number among

@@ -4,16 +4,21 @@ use Rattle.pim_ip.{specs.declared.refusal.Refusal.Refusal}
 use Rattle.pim_types.{specs.declared.{event.{Event.Event, EventKind.EventKind}, outcome.{Emission.Emission, Outcome.Outcome, Verdict.Verdict}}}
 use Rattle.pim_model.{specs.{State.State, Step.{outcome_of, ran, run, state_after, step}}}
 use Rattle.igmp_older.{specs.{Joined.{Both, joined, joined_step, known_after, known_if, noted_if, older_of, present_end, rows_of}, Modes.queries_heard, Presence.{Present, doubted, has_room, hosts_on, left, looked, noted_of, report_noted, setting_or_nobody}, Routers.{queried, query_packet}, Translation.translation, declared.{older.{Older.Older, OlderKind.OlderKind}, setting.OlderHosts.OlderHosts}}}
-use Rattle.pim_session.{specs.{Front.{Front, both, bytes_queried, emission_leaving, emissions_leaving, event_queried, front_after, given, kind_queried, version_on}, Laws.{Served, SessionIsJoined, WithoutFrontNothingChanges, outcome_left, session_run, session_step}}}
+use Rattle.pim_session.{specs.{Front.{Front, both, bytes_queried, emission_leaving, emissions_leaving, event_queried, front_after, given, kind_queried, version_on}, Laws.{Fronted, Served, SessionIsJoined, WithoutFrontNothingChanges, front_run, front_step, outcome_left, run_served}}, proofs.SetLaws.without_sets}
 
 -- ---- nothing stands before the router
 
+front_alone : (s : State) (es : List Event)
+    → front_run (record { front = None; state = s }) es ≡ (run s es, record { front = None; state = state_after s es })
+unfolding front_run front_step given front_after emissions_leaving run state_after ran
+front_alone s [] = refl
+front_alone s (e ∷ es) =
+    ap (λ (p : List Outcome × Fronted). let q : List Outcome × Fronted = (outcome_of (step s e) ∷ p.0, p.1) in q)
+    (front_alone (step s e).state es)
+
 pub without_front : WithoutFrontNothingChanges
-unfolding session_run session_step given front_after emissions_leaving run state_after ran
-without_front s [] = refl
-without_front s (e ∷ es) =
-    ap (λ (p : List Outcome × Served). let q : List Outcome × Served = (outcome_of (step s e) ∷ p.0, p.1) in q)
-    (without_front (step s e).state es)
+without_front s es =
+    without_sets (record { front = None; state = s }) es ∙ ap (run_served []) (front_alone s es)
 
 -- ---- the settings stay
 
@@ -112,16 +117,28 @@ outcomes_same f p (o ∷ os) =
 
 -- ---- the joined machine
 
-pub session_is_joined : SessionIsJoined
-unfolding session_run session_step given front_after joined joined_step
-session_is_joined f s [] = (refl, refl)
-session_is_joined f s (e ∷ es) =
+front_is_joined : (f : Front) (s : State) (es : List Event)
+    → ((front_run (record { front = Some f; state = s }) es).0
+    ≡ map (outcome_left (Some f)) (joined (both f s) (map (event_queried f) es)).0)
+    × ((front_run (record { front = Some f; state = s }) es).1.state
+    ≡ (joined (both f s) (map (event_queried f) es)).1.state)
+unfolding front_run front_step given front_after joined joined_step
+front_is_joined f s [] = (refl, refl)
+front_is_joined f s (e ∷ es) =
     let first : Outcome × Both = joined_step (both f s) (event_queried f e) in
     let next : Front = with_present f first.1.present in
-    let later = session_is_joined next first.1.state es in
+    let later = front_is_joined next first.1.state es in
     let same = events_same f first.1.present es (hosts_stay (both f s) (event_queried f e)) in (
       ap (λ (os : List Outcome). outcome_left (Some f) first.0 ∷ os)
           (later.0 ∙ ap (λ (ys : List Event). map (outcome_left (Some next)) (joined first.1 ys).0) same
           ∙ outcomes_same f first.1.present (joined first.1 (map (event_queried f) es)).0),
       later.1 ∙ ap (λ (ys : List Event). (joined first.1 ys).1.state) same,
+    )
+
+pub session_is_joined : SessionIsJoined
+session_is_joined f s es =
+    let same = without_sets (record { front = Some f; state = s }) es in
+    let alone = front_is_joined f s es in (
+      ap (λ (p : List Outcome × Served). p.0) same ∙ alone.0,
+      ap (λ (p : List Outcome × Served). p.1.state) same ∙ alone.1,
     )

@@ -10,7 +10,8 @@ use Rattle.pim_event.{specs.{Disturbing.{disturbed_with_room, event_disturbed, e
 use Rattle.pim_router.{specs.Standing.{Shown, Standing, beginning, nothing_shown, standing}}
 use Rattle.igmp_older.{specs.{Joined.{bytes_given, event_given, joined_step, kind_given, known_if, rows_of}, Presence.hosts_on, Routers.{OlderQueried, queried, query_packet}, Translation.{Translation, packet_given, translation}}}
 use Rattle.pim_guard.{specs.{Guard.{guarded, guarded_if, is_frame_stopped, is_kind_stopped}, Laws.IsOfData}, proofs.{Guarded.{guarded_copies_are_data, guarded_passes}, Passing.no_frame_of_another}}
-use Rattle.pim_session.{specs.{Front.{Front, both, bytes_queried, emissions_leaving, event_queried, front_after, given, hears_queries, kind_queried}, Laws.{CopiesAreData, GuardedSessionCopiesData, Served, StoppedEventChangesNothing, WithoutGuardSessionStays, session_run, session_step}, Untaken.IsStill}}
+use Rattle.pim_anycast.{specs.{Joined.{event_given as shared_given, kind_given as shared_kind}, Passed.passed, declared.set.RpSet.RpSet}}
+use Rattle.pim_session.{specs.{Front.{Front, both, bytes_queried, emissions_leaving, event_queried, front_after, given, hears_queries, kind_queried}, Laws.{CopiesAreData, GuardedSessionCopiesData, Served, StoppedEventChangesNothing, WithoutGuardSessionStays, session_run, session_step}, Shared.{front_behind, given_behind, left_behind}, Untaken.IsStill}, proofs.Counted.{kind_passes as shared_passes}}
 
 -- ---- the empty packet that the router is given in the place of what is stopped
 
@@ -140,13 +141,18 @@ unfolding given event_given
 given_passes None s e passed = passed
 given_passes (Some f) s e passed = kind_passes f s e.kind passed
 
+behind_passes : (sets : List RpSet) (front : Option Front) (s : State) (e : Event) → is_kind_stopped e.kind ≡ false
+    → is_kind_stopped (given_behind sets front s e).kind ≡ false
+unfolding given_behind shared_given
+behind_passes sets front s e passed = given_passes front s (shared_given sets s e) (shared_passes sets s e.kind passed)
+
 -- ---- the laws
 
 copies_data : (x : Served) (e : Event) → is_kind_stopped e.kind ≡ false
-    → All (IsOfData x.state (given x.front x.state e)) (copies_at x.state (given x.front x.state e))
+    → All (IsOfData x.state (given_behind x.sets x.front x.state e)) (copies_at x.state (given_behind x.sets x.front x.state e))
 copies_data x e passed =
-    let behind : Event = given x.front x.state e in
-    let same : guarded true behind ≡ behind = ap (λ (b : Bool). guarded_if b behind) (given_passes x.front x.state e passed) in
+    let behind : Event = given_behind x.sets x.front x.state e in
+    let same : guarded true behind ≡ behind = ap (λ (b : Bool). guarded_if b behind) (behind_passes x.sets x.front x.state e passed) in
     subst (λ (y : Event). All (IsOfData x.state y) (copies_at x.state y)) same (guarded_copies_are_data x.state behind)
 
 pub guarded_session_copies_data : GuardedSessionCopiesData
@@ -159,14 +165,14 @@ guarded_session_copies_data x (e ∷ es) = (
 
 empty_changes_nothing : (x : Served) (draw : ℕ)
     → session_step x (empty draw) ≡ (record { answer = Err Refusal.Short; emissions = []; copies = 0 }, x)
-unfolding session_step given event_given kind_given kind_queried front_after joined_step known_if emissions_leaving step judged unicast_judged ipv4_reading
-empty_changes_nothing x draw = go x.front x.state
+unfolding session_step given_behind front_behind left_behind shared_given shared_kind passed given event_given kind_given kind_queried front_after joined_step known_if emissions_leaving step judged unicast_judged ipv4_reading
+empty_changes_nothing x draw = go x.sets x.front x.state
   where
-    go : (front : Option Front) (s : State)
-        → session_step (record { front = front; state = s }) (empty draw)
-        ≡ (record { answer = Err Refusal.Short; emissions = []; copies = 0 }, record { front = front; state = s })
-    go None s = refl
-    go (Some f) s = refl
+    go : (sets : List RpSet) (front : Option Front) (s : State)
+        → session_step (record { sets = sets; front = front; state = s }) (empty draw)
+        ≡ (record { answer = Err Refusal.Short; emissions = []; copies = 0 }, record { sets = sets; front = front; state = s })
+    go sets None s = refl
+    go sets (Some f) s = refl
 
 pub stopped_event_changes_nothing : StoppedEventChangesNothing
 stopped_event_changes_nothing x e is =

@@ -6,56 +6,91 @@ use Rattle.pim_model.{specs.{State.State, Step.step}}
 use Rattle.igmp_older_saved.{specs.{Reading.held_reading, Text.Held}, proofs.Spelled.held_text_is_read}
 use Rattle.law_states.{specs.History.{Given, IsLedTo}}
 use Rattle.pim_router.{specs.{Asked.{LeadsOn, SentIsAsked}, Standing.{Shown, Standing, beginning, begun, standing}}, proofs.Asked.{leads_now, step_asked, step_leads}}
-use Rattle.pim_session.{specs.{Behind.Stepped, Front.{Front, given}, Leaving.{GoesOnFrom, LeftIsAsked}, Session.ShownSession}}
+use Rattle.pim_anycast.{specs.declared.set.RpSet.RpSet}
+use Rattle.pim_session.{specs.{Front.Front, Leaving.{GoesOnFrom, LeftIsAsked}, Session.ShownSession, Shared.{Reached, Saw, event_in, leaving, left_in, seen_in}}}
 
 -- a session that keeps what left of an event shows what its router shows
 pub kept_by : (e : Event) (answer : Result Verdict Refusal) (now kept : ShownSession) (before after : Shown) (leaving : List Emission)
-    (front known : Option Front)
-    → before ≡ now.router → front ≡ now.front → kept.router ≡ after → kept.sent ≡ leaving
-    → IfSome before.standing (λ r. Stepped front r.state e answer after leaving known)
-    → IfSome now.router.standing (λ r. Stepped now.front r.state e answer kept.router kept.sent known)
-kept_by e answer now kept before after leaving front known is_router is_front keeps sends told =
-    subst (λ (x : Shown). IfSome x.standing (λ r. Stepped now.front r.state e answer kept.router kept.sent known)) is_router
-    (subst (λ (f : Option Front). IfSome before.standing (λ r. Stepped f r.state e answer kept.router kept.sent known)) is_front
-    (subst (λ (x : Shown). IfSome before.standing (λ r. Stepped front r.state e answer x kept.sent known)) (sym keeps)
-    (subst (λ (xs : List Emission). IfSome before.standing (λ r. Stepped front r.state e answer after xs known)) (sym sends) told)))
+    (sets : List RpSet) (front known : Option Front)
+    → before ≡ now.router → sets ≡ now.sets → front ≡ now.front → kept.router ≡ after → kept.sent ≡ leaving
+    → IfSome before.standing (λ r. Reached sets front r.state e answer after leaving known)
+    → IfSome now.router.standing (λ r. Reached now.sets now.front r.state e answer kept.router kept.sent known)
+kept_by e answer now kept before after leaving sets front known is_router are_sets is_front keeps sends told =
+    subst (λ (x : Shown). IfSome x.standing (λ r. Reached now.sets now.front r.state e answer kept.router kept.sent known)) is_router
+    (subst (λ (xs : List RpSet). IfSome before.standing (λ r. Reached xs now.front r.state e answer kept.router kept.sent known)) are_sets
+    (subst (λ (f : Option Front). IfSome before.standing (λ r. Reached sets f r.state e answer kept.router kept.sent known)) is_front
+    (subst (λ (x : Shown). IfSome before.standing (λ r. Reached sets front r.state e answer x kept.sent known)) (sym keeps)
+    (subst (λ (xs : List Emission). IfSome before.standing (λ r. Reached sets front r.state e answer after xs known)) (sym sends) told))))
 
 -- what leaves of an event is asked for
-pub asked_by : (front : Option Front) (e : Event) (was : Option Standing) (answer : Result Verdict Refusal) (shown : Shown)
+pub asked_by : (x : ShownSession) (e : Event) (was : Option Standing) (answer : Result Verdict Refusal) (shown : Shown)
     (leaving : List Emission) (after : Option Front)
-    → IfSome was (λ r. Stepped front r.state e answer shown leaving after)
-    → IfSome was (λ r. IfSome shown.standing (λ a. LeftIsAsked front r.state (given front r.state e) answer leaving a.copies))
-asked_by front e None answer shown leaving after told = tt
-asked_by front e (Some r) answer shown leaving after told =
-    let behind : Event = given front r.state e in
-    subst (λ (o : Option Standing). IfSome o (λ a. LeftIsAsked front r.state behind answer leaving a.copies)) (sym told.state)
+    → IfSome was (λ r. Reached x.sets x.front r.state e answer shown leaving after)
+    → IfSome was (λ r. IfSome shown.standing (λ a. LeftIsAsked (left_in x r.state e) r.state (event_in x r.state e) answer leaving a.copies))
+unfolding left_in
+asked_by x e None answer shown leaving after told = tt
+asked_by x e (Some r) answer shown leaving after told =
+    let behind : Event = event_in x r.state e in
+    subst (λ (o : Option Standing). IfSome o (λ a. LeftIsAsked (left_in x r.state e) r.state behind answer leaving a.copies)) (sym told.state)
     (record {
       sent = (step r.state behind).emissions;
-      leaves = told.sent;
+      is = told.sent;
       asked = step_asked r.state behind answer (step r.state behind).emissions told.is_answer refl;
     })
 
+-- what leaves of an event
+pub sent_in : (x : ShownSession) (e : Event) (was : Option Standing) (answer : Result Verdict Refusal) (shown : Shown)
+    (left : List Emission) (after : Option Front)
+    → IfSome was (λ r. Reached x.sets x.front r.state e answer shown left after)
+    → IfSome was (λ r. left ≡ leaving x r.state e)
+unfolding left_in
+sent_in x e None answer shown left after told = tt
+sent_in x e (Some r) answer shown left after told = told.sent
+
 -- what led to the state before it goes on
-pub led_by : (front : Option Front) (e : Event) (was : Option Standing) (answer : Result Verdict Refusal) (shown : Shown)
+pub led_by : (x : ShownSession) (e : Event) (was : Option Standing) (answer : Result Verdict Refusal) (shown : Shown)
     (leaving : List Emission) (after : Option Front)
-    → IfSome was (λ r. Stepped front r.state e answer shown leaving after)
-    → IfSome was (λ r. IfSome shown.standing (λ a. LeadsOn r.state (Given.Happening (given front r.state e)) a.state))
-led_by front e None answer shown leaving after told = tt
-led_by front e (Some r) answer shown leaving after told =
-    let behind : Event = given front r.state e in
+    → IfSome was (λ r. Reached x.sets x.front r.state e answer shown leaving after)
+    → IfSome was (λ r. IfSome shown.standing (λ a. LeadsOn r.state (Given.Happening (event_in x r.state e)) a.state))
+led_by x e None answer shown leaving after told = tt
+led_by x e (Some r) answer shown leaving after told =
+    let behind : Event = event_in x r.state e in
     leads_now r.state (Given.Happening behind) shown.standing (standing (step r.state behind)) told.state (step_leads r.state behind)
 
--- without a front
-pub sent_by : {E : Type 0} (e : Event) (was now : Option Standing) (r : Result (Result Verdict Refusal) E) (left : List Emission)
-    → IfSome was (λ r'. IfOk r (λ answer. answer ≡ (step r'.state e).answer))
-    → IfSome was (λ r'. OnOk r (now ≡ Some (standing (step r'.state e))))
-    → IfSome was (λ r'. OnOk r (left ≡ (step r'.state e).emissions))
-    → IfSome was (λ r'. IfOk r (λ answer. IfSome now (λ after. SentIsAsked r'.state e answer left after.copies)))
-sent_by e None now r left is stands sent = tt
-sent_by e (Some r') now (Err f) left is stands sent = tt
-sent_by e (Some r') now (Ok answer) left is stands sent =
-    subst (λ (o : Option Standing). IfSome o (λ after. SentIsAsked r'.state e answer left after.copies)) (sym stands)
-    (step_asked r'.state e answer left is sent)
+-- ---- a packet that a data plane saw
+
+pub kept_of : (e : Event) (g src : ℕ) (answer : Result Verdict Refusal) (now kept : ShownSession) (before after : Shown)
+    (leaving : List Emission) (sets : List RpSet)
+    → before ≡ now.router → sets ≡ now.sets → kept.router ≡ after → kept.sent ≡ leaving
+    → IfSome before.standing (λ r. Saw sets r.state e g src answer after leaving)
+    → IfSome now.router.standing (λ r. Saw now.sets r.state e g src answer kept.router kept.sent)
+kept_of e g src answer now kept before after leaving sets is_router are_sets keeps sends told =
+    subst (λ (x : Shown). IfSome x.standing (λ r. Saw now.sets r.state e g src answer kept.router kept.sent)) is_router
+    (subst (λ (xs : List RpSet). IfSome before.standing (λ r. Saw xs r.state e g src answer kept.router kept.sent)) are_sets
+    (subst (λ (x : Shown). IfSome before.standing (λ r. Saw sets r.state e g src answer x kept.sent)) (sym keeps)
+    (subst (λ (xs : List Emission). IfSome before.standing (λ r. Saw sets r.state e g src answer after xs)) (sym sends) told)))
+
+pub asked_of : (x : ShownSession) (e : Event) (g src : ℕ) (was : Option Standing) (answer : Result Verdict Refusal) (shown : Shown)
+    (leaving : List Emission)
+    → IfSome was (λ r. Saw x.sets r.state e g src answer shown leaving)
+    → IfSome was (λ r. IfSome shown.standing (λ a. LeftIsAsked (seen_in x r.state e g src) r.state e answer leaving a.copies))
+unfolding seen_in
+asked_of x e g src None answer shown leaving told = tt
+asked_of x e g src (Some r) answer shown leaving told =
+    subst (λ (o : Option Standing). IfSome o (λ a. LeftIsAsked (seen_in x r.state e g src) r.state e answer leaving a.copies)) (sym told.state)
+    (record {
+      sent = (step r.state e).emissions;
+      is = told.sent;
+      asked = step_asked r.state e answer (step r.state e).emissions told.is_answer refl;
+    })
+
+pub led_of : (x : ShownSession) (e : Event) (g src : ℕ) (was : Option Standing) (answer : Result Verdict Refusal) (shown : Shown)
+    (leaving : List Emission)
+    → IfSome was (λ r. Saw x.sets r.state e g src answer shown leaving)
+    → IfSome was (λ r. IfSome shown.standing (λ a. LeadsOn r.state (Given.Happening e) a.state))
+led_of x e g src None answer shown leaving told = tt
+led_of x e g src (Some r) answer shown leaving told =
+    leads_now r.state (Given.Happening e) shown.standing (standing (step r.state e)) told.state (step_leads r.state e)
 
 -- a router that is made of bytes
 pub goes_on_from : (bytes : List ℕ) (shown : Shown) → ((h : Held) → held_reading bytes ≡ Ok h → shown ≡ begun h.state)

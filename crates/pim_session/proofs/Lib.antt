@@ -1,5 +1,8 @@
+pub mod Counted
 pub mod FrontLaws
 pub mod Guarding
+pub mod SetLaws
+pub mod Sharing
 pub mod Taking
 mod Leaving
 mod Saving

@@ -6,5 +6,6 @@ pub mod Placed
 pub mod Reloaded
 pub mod Saved
 pub mod Session
+pub mod Shared
 pub mod Untaken
 pub use Rattle.pim_router.specs.Standing

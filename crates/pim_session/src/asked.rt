@@ -1,10 +1,13 @@
-//! The router as the querier of version 3 that the front asks.
-ghost use Rattle.std.specs.Prelude.{◌≡◌};
+//! The router as what stands before it asks it.
+ghost use Rattle.std.specs.List.{list_any};
+ghost use Rattle.std.specs.Prelude.{◌≡◌, ◌==◌};
 
 use igmp_older::Querier;
+use pim_anycast::{OwnAddresses, Rendezvous};
 use pim_router::Router;
 use pim_types::fact::GroupRecordRow;
-use pim_types::{Addr, IfaceId};
+use pim_types::{Addr, Config, IfaceId, SourceGroup};
+use std::alloc::{AllocError, Global};
 use std::marker::Model;
 
 /// A router that is asked.
@@ -47,5 +50,97 @@ impl<'a> Querier for Asked<'a> {
 
     fn group_record(&self, iface: IfaceId, group: Addr) -> Option<GroupRecordRow> {
         self.router.group_record(iface, group)
+    }
+}
+
+impl<'a> OwnAddresses for Asked<'a> {
+    ghost use Rattle.std.specs.Option.{option_map_or};
+    ghost use Rattle.std.specs.Prelude.{[]};
+
+    ghost configured = { λ q. option_map_or (λ r. r.state.configured) q.standing (record { interfaces = []; addresses = [] }) };
+
+    fn is_own(&self, address: Addr) -> bool {
+        self.router.is_own(address)
+    }
+}
+
+impl<'a> Rendezvous for Asked<'a> {
+    ghost use Rattle.pim_anycast.specs.Announced.{is_local, local_keys};
+    ghost use Rattle.std.specs.Option.{option_map_or};
+    ghost use Rattle.std.specs.Prelude.{[], false};
+
+    ghost present = { λ q. option_map_or (λ r. r.state.present) q.standing 0 };
+
+    ghost ranges = { λ q. option_map_or (λ r. r.state.ranges) q.standing [] };
+
+    ghost is_local = { λ q g src. option_map_or (λ r. is_local r.state g src) q.standing false };
+
+    ghost local_keys = { λ q. option_map_or (λ r. local_keys r.state) q.standing [] };
+
+    fn present_moment(&self) -> u64 {
+        self.router.present_moment()
+    }
+
+    fn rp(&self, group: Addr) -> Option<Addr> {
+        self.router.rp(group)
+    }
+
+    #[tactic(auto, unfolding(pim_anycast::specs::Announced::is_local))]
+    fn is_local(&self, name: SourceGroup) -> bool {
+        self.router.is_local(name)
+    }
+
+    #[tactic(auto, unfolding(pim_anycast::specs::Announced::is_local, pim_anycast::specs::Announced::local_keys))]
+    fn local_sources(&self, alloc: Global) -> Result<Vec<SourceGroup>, AllocError> {
+        self.router.local_sources(alloc)
+    }
+}
+
+/// A configuration whose addresses are asked for.
+#[derive(Drop)]
+pub(crate) struct Configured<'a> {
+    config: &'a Config,
+}
+
+impl<'a> Model for Configured<'a> {
+    ghost use Rattle.pim_types.specs.declared.config.Config.{Config};
+
+    ghost Value = { Config };
+
+    ghost view = { λ c. c.config.now };
+}
+
+impl<'a> Configured<'a> {
+    pub(crate) fn of(config: &'a Config) -> Configured<'a>
+        ensures { result ≡ config.now }
+    {
+        Configured { config }
+    }
+
+    // Whether the address is that of an interface.
+    fn is_of_interface(&self, address: Addr) -> bool
+        ensures { result ≡ list_any (λ c. c.address.bits == address.bits) self.now.interfaces }
+    {
+        let interfaces = self.config.interfaces.as_slice();
+        interfaces.iter().any(|own| own.address == address)
+    }
+
+    // Whether the address is one of those that are of no interface.
+    fn is_of_none(&self, address: Addr) -> bool
+        ensures { result ≡ list_any (λ own. own.bits == address.bits) self.now.addresses }
+    {
+        let addresses = self.config.addresses.as_slice();
+        addresses.iter().any(|own| *own == address)
+    }
+}
+
+impl<'a> OwnAddresses for Configured<'a> {
+    ghost use Rattle.pim_model.specs.State.{addressing_of};
+
+    ghost configured = { λ c. addressing_of c };
+
+    #[tactic(auto, unfolding(pim_model::specs::State::is_own_among))]
+    fn is_own(&self, address: Addr) -> bool {
+        self.is_of_interface(address) || self.is_of_none(address)
     }
 }

@@ -6,10 +6,13 @@ mod asked;
 mod behind;
 pub mod front;
 pub mod laws;
+pub mod refused;
 mod saved;
 pub mod session;
+mod shared;
 pub mod stop;
 
 pub use front::Front;
+pub use refused::ReloadRefusal;
 pub use session::Session;
 pub use stop::Stop;

@@ -21,30 +21,32 @@ ghost use Rattle.pim_model.specs.Limits.{config_test};
 ghost use Rattle.pim_model.specs.Sets.{is_kept_alive};
 ghost use Rattle.pim_model.specs.State.{opening};
 ghost use Rattle.pim_model.specs.Step.{step};
-ghost use Rattle.pim_model.specs.Timers.{next_moment};
 ghost use Rattle.pim_model.specs.Unicast.{rpf_interface_rp};
-ghost use Rattle.pim_router.specs.Asked.{LeadsOn, SentIsAsked};
+ghost use Rattle.pim_router.specs.Asked.{LeadsOn};
 ghost use Rattle.pim_router.specs.Standing.{begun, nothing_shown, standing, with_state};
 ghost use Rattle.pim_rows.specs.Printed.{rows};
-ghost use Rattle.pim_session.specs.Front.{emissions_leaving, front_after, given, hosts_set, interface_test, is_sure, older_rows, version_set};
+ghost use Rattle.pim_session.specs.Front.{hosts_set, interface_test, older_rows, version_set};
 ghost use Rattle.pim_session.specs.Leaving.{LeftIsAsked};
+ghost use Rattle.pim_session.specs.Shared.{event_in, front_in, is_sure_in, leaving, left_in, next_in, seen_in, seen_leaving, sooner};
 ghost use Rattle.pim_session.specs.Untaken.{IsAnswered, IsMemoryAlone, IsMemoryUnless, Stopped, has_untaken, is_guarded};
 ghost use Rattle.pim_session.specs.declared.stop.Stop.{Stop as StopValue};
 ghost use Rattle.pim_types.specs.Keys.{key_cmp};
 ghost use Rattle.std.specs.List.Sorted.{IsStrictlySortedBy};
 ghost use Rattle.std.specs.Option.{option_map_or};
-ghost use Rattle.std.specs.Prelude.{◌≡◌, ◌↔◌, [], Err, IfErr, IfOk, IfSome, IsOkUnless, IsSome, IsTrue, None, Ok, OnErr, OnOk, Some, drop, min, option_and_then, true};
+ghost use Rattle.std.specs.Prelude.{◌≡◌, ◌↔◌, [], Err, IfErr, IfOk, IfSome, IsOkUnless, IsSome, IsTrue, None, Ok, OnErr, OnOk, Some, drop, min, true};
 
 mod guarded;
 mod placed;
 mod reloaded;
 mod saved;
+mod sets;
 mod trees;
 
-use crate::behind;
 use crate::front::Front;
 use crate::stop::Stop;
+use crate::{behind, shared};
 use igmp_older::{OlderHosts, OlderRow, QueryVersion};
+use pim_anycast::Anycast;
 use pim_intake::LentEvent;
 use pim_mfc::{CacheRow, Offered};
 use pim_router::Router;
@@ -54,15 +56,17 @@ use std::alloc::Global;
 use std::marker::Model;
 use std::mem;
 
-/// A router, what stands before it for hosts and routers of older versions of IGMP, the packets of the last event, and
-/// the rows that were read last. The packets are taken one by one, or cleared: until then the session takes no event.
-/// A new session's router refuses each message of an older version. Before it stands a guard, which stops what would be
-/// forwarded as data though hosts and routers read it as IGMP or PIM, as `pim_guard` says.
+/// A router, what stands before it for hosts and routers of older versions of IGMP and for RPs that share an address, the
+/// packets of the last event, and the rows that were read last. The packets are taken one by one, or cleared: until then
+/// the session takes no event. A new session's router refuses each message of an older version, and is in no set of RPs.
+/// Before it stands a guard, which stops what would be forwarded as data though hosts and routers read it as IGMP or PIM,
+/// as `pim_guard` says.
 pub struct Session {
     router: Box<Router>,
     // Whether an allocation failed, and with it the session.
     is_lost: bool,
     front: Option<Front>,
+    anycast: Anycast,
     guard: bool,
     sent: Vec<Emission>,
     // How many of the packets were taken.
@@ -81,6 +85,7 @@ impl Model for Session {
     ghost view = { λ s. record {
       router = if s.is_lost then nothing_shown else s.router.value;
       front = if s.is_lost then None else s.front;
+      sets = s.anycast;
       guard = s.guard;
       sent = drop s.taken s.sent.items;
       rows = s.rows.items;
@@ -97,6 +102,7 @@ impl Drop for Session {
             router: _,
             is_lost: _,
             front: _,
+            anycast: _,
             guard: _,
             sent: _,
             taken: _,
@@ -106,12 +112,23 @@ impl Drop for Session {
     }
 }
 
+// The sooner of two timestamps, in ms.
+fn sooner(first: Option<u64>, other: Option<u64>) -> Option<u64>
+    ensures { result ≡ sooner first other }
+{
+    match (first, other) {
+        (Some(first), Some(other)) => Some(first.min(other)),
+        (Some(first), None) => Some(first),
+        (None, other) => other,
+    }
+}
+
 impl Session {
     /// A router with this configuration, at timestamp 0 and with all its interfaces down, as `Router::new` makes it.
     /// The fault is want of memory.
     pub fn new(alloc: Global, config: Config) -> Result<Result<Session, Refusal>, Fault>
         ensures accepted { IfOk result (λ made. IfOk made (λ s. (config_test config ≡ Ok tt)
-            × (s.router ≡ begun (opening config)) × (s.front ≡ None) × (s.guard ≡ true) × (s.sent ≡ []) × (s.rows ≡ [])
+            × (s.router ≡ begun (opening config)) × (s.front ≡ None) × (s.sets ≡ []) × (s.guard ≡ true) × (s.sent ≡ []) × (s.rows ≡ [])
             × (s.older_rows ≡ []))) }
         ensures refused { IfOk result (λ made. IfErr made (λ refusal. config_test config ≡ Err refusal)) }
         ensures memory { IfErr result (λ fault. fault ≡ Fault.Memory) }
@@ -124,13 +141,14 @@ impl Session {
 
     fn of(alloc: Global, router: Box<Router>, front: Option<Front>) -> Session
         requires { IsSome router.value.standing }
-        ensures { (result.router ≡ router.value) × (result.front ≡ front) × (result.guard ≡ true) × (result.sent ≡ []) × (result.rows ≡ [])
+        ensures { (result.router ≡ router.value) × (result.front ≡ front) × (result.sets ≡ []) × (result.guard ≡ true) × (result.sent ≡ []) × (result.rows ≡ [])
             × (result.older_rows ≡ []) }
     {
         Session {
             router,
             is_lost: false,
             front,
+            anycast: Anycast::new(alloc),
             guard: true,
             sent: Vec::new(alloc),
             taken: 0,
@@ -140,37 +158,39 @@ impl Session {
     }
 
     /// Takes one event, as `Router::step_lent` does, and keeps its packets. Where something stands before the router, the
-    /// router is given what that makes of a packet, and its queries leave as the versions of the interfaces say. While
-    /// packets of the event before are untaken the answer is `Untaken`, and nothing changes. Else, where the guard stops
-    /// the event, the answer is `Guarded`: the router is given an empty packet in its place, which it refuses, so that it
-    /// stays as it is, and lists nothing as changed. After a fault the session answers `Failed` from then on. A session
-    /// that hasn't failed, and has no untaken packets, answers an event that is stopped or ignored, or is refused for its
-    /// bytes, its timestamp or its interface, if its packet was given to the router as it came.
+    /// router is given what that makes of a packet, and its queries leave as the versions of the interfaces say. Where it
+    /// is in a set of RPs that share an address, what it sends to the others of the set leaves too: copies of a Register
+    /// before all else, and Null-Registers after all else. While packets of the event before are untaken the answer is
+    /// `Untaken`, and nothing changes. Else, where the guard stops the event, the answer is `Guarded`: the router is given
+    /// an empty packet in its place, which it refuses, so that it stays as it is, and lists nothing as changed. After a
+    /// fault the session answers `Failed` from then on. A session that hasn't failed, and has no untaken packets, answers
+    /// an event that is stopped or ignored, or is refused for its bytes, its timestamp or its interface, if its packet was
+    /// given to the router as it came.
     pub fn step(
         &mut self,
         alloc: Global,
         event: &LentEvent<'_>,
     ) -> Result<Result<Verdict, Refusal>, Stop>
         ensures answer { IfSome self.old.router.standing (λ r. IfOk result (λ answer. answer
-            ≡ (step r.state (given self.old.front r.state event.now)).answer)) }
+            ≡ (step r.state (event_in self.old r.state event.now)).answer)) }
         ensures state { IfSome self.old.router.standing (λ r. OnOk result
-            (self.new.router.standing ≡ Some (standing (step r.state (given self.old.front r.state event.now))))) }
+            (self.new.router.standing ≡ Some (standing (step r.state (event_in self.old r.state event.now))))) }
         ensures sent { IfSome self.old.router.standing (λ r. OnOk result (self.new.sent
-            ≡ emissions_leaving self.old.front (step r.state (given self.old.front r.state event.now)).emissions)) }
+            ≡ leaving self.old r.state event.now)) }
         ensures asked { IfSome self.old.router.standing (λ r. IfOk result (λ answer. IfSome self.new.router.standing (λ after.
-            LeftIsAsked self.old.front r.state (given self.old.front r.state event.now) answer self.new.sent after.copies))) }
+            LeftIsAsked (left_in self.old r.state event.now) r.state (event_in self.old r.state event.now) answer self.new.sent after.copies))) }
         ensures led { IfSome self.old.router.standing (λ r. OnOk result (IfSome self.new.router.standing (λ after.
-            LeadsOn r.state (Given.Happening (given self.old.front r.state event.now)) after.state))) }
+            LeadsOn r.state (Given.Happening (event_in self.old r.state event.now)) after.state))) }
         ensures front { IfSome self.old.router.standing (λ r. OnOk result
-            (self.new.front ≡ front_after self.old.front r.state event.now)) }
+            (self.new.front ≡ front_in self.old r.state event.now)) }
         ensures cheap { IfSome self.old.router.standing (λ r. OnOk result
-            (IsCheap r.state (given self.old.front r.state event.now) self.new.router.probes self.new.router.touched)) }
+            (IsCheap r.state (event_in self.old r.state event.now) self.new.router.probes self.new.router.touched)) }
         ensures changed { IfSome self.old.router.standing (λ r. OnOk result
-            (ListsSame self.new.router.changed (event_named r.state (given self.old.front r.state event.now)))) }
+            (ListsSame self.new.router.changed (event_named r.state (event_in self.old r.state event.now)))) }
         ensures disturbed { IfSome self.old.router.standing (λ r. OnOk result
-            (self.new.router.disturbed ≡ event_disturbed r.state (given self.old.front r.state event.now))) }
+            (self.new.router.disturbed ≡ event_disturbed r.state (event_in self.old r.state event.now))) }
         ensures stays { IfSome self.old.router.standing (λ r. OnOk result
-            (OffersStay self.new.router.disturbed r.state (step r.state (given self.old.front r.state event.now)).state)) }
+            (OffersStay self.new.router.disturbed r.state (step r.state (event_in self.old r.state event.now)).state)) }
         ensures untaken { IfSome self.old.router.standing (λ r.
             (result ≡ Err StopValue.Untaken) ↔ IsTrue (has_untaken self.old)) }
         ensures stopped { IfErr result (λ stop. Stopped stop self.old self.new) }
@@ -179,10 +199,11 @@ impl Session {
         ensures guarded { IfSome self.old.router.standing (λ r.
             (result ≡ Err StopValue.Guarded) ↔ IsTrue (is_guarded self.old event.now.kind)) }
         ensures guard { self.new.guard ≡ self.old.guard }
+        ensures sets { self.new.sets ≡ self.old.sets }
         ensures fault { IfSome self.old.router.standing (λ r.
             IfErr result (IsMemoryUnless (is_stopped self.old.guard event.now.kind))) }
         ensures sure { IfSome self.old.router.standing (λ r. self.old.sent ≡ []
-            → IsTrue (is_sure self.old.front r.state event.now)
+            → IsTrue (is_sure_in self.old r.state event.now)
             → IsAnswered (is_stopped self.old.guard event.now.kind) result) }
         ensures rows { (self.new.rows ≡ self.old.rows) × (self.new.older_rows ≡ self.old.older_rows) }
     {
@@ -195,7 +216,13 @@ impl Session {
         if self.stops(event) {
             return Err(self.stay(alloc, event.draw()));
         }
-        match behind::step(alloc, self.router.as_mut(), &mut self.front, event) {
+        match shared::step(
+            alloc,
+            self.router.as_mut(),
+            &mut self.front,
+            &self.anycast,
+            event,
+        ) {
             Ok((answer, sent)) => {
                 self.keep_sent(sent);
                 Ok(answer)
@@ -207,10 +234,10 @@ impl Session {
         }
     }
 
-    /// A data plane saw a packet of (S,G) on the interface, as `Router::packet_seen` says. What leaves is kept. While
+    /// A data plane saw a packet of (S,G) on the interface, as `Router::packet_seen` says. What leaves is kept,
+    /// with Null-Registers to the others of a set of RPs after all else, as `step` says of a packet. While
     /// packets of the event before are untaken the answer is `Untaken`, and nothing changes. After a fault the session
     /// answers `Failed` from then on.
-    #[tactic(auto, using(crate::proofs::Leaving::sent_by))]
     pub fn packet_seen(
         &mut self,
         alloc: Global,
@@ -224,9 +251,10 @@ impl Session {
         ensures state { IfSome self.old.router.standing (λ r. OnOk result (self.new.router.standing
             ≡ Some (standing (step r.state (seen_event draw iface group.bits source.bits))))) }
         ensures sent { IfSome self.old.router.standing (λ r. OnOk result
-            (self.new.sent ≡ (step r.state (seen_event draw iface group.bits source.bits)).emissions)) }
+            (self.new.sent ≡ seen_leaving self.old r.state (seen_event draw iface group.bits source.bits) group.bits source.bits)) }
         ensures asked { IfSome self.old.router.standing (λ r. IfOk result (λ answer. IfSome self.new.router.standing (λ after.
-            SentIsAsked r.state (seen_event draw iface group.bits source.bits) answer self.new.sent after.copies))) }
+            LeftIsAsked (seen_in self.old r.state (seen_event draw iface group.bits source.bits) group.bits source.bits) r.state
+            (seen_event draw iface group.bits source.bits) answer self.new.sent after.copies))) }
         ensures led { IfSome self.old.router.standing (λ r. OnOk result (IfSome self.new.router.standing (λ after.
             LeadsOn r.state (Given.Happening (seen_event draw iface group.bits source.bits)) after.state))) }
         ensures cheap { IfSome self.old.router.standing (λ r. OnOk result (IsCheap r.state
@@ -242,6 +270,7 @@ impl Session {
         ensures stopped { IfErr result (λ stop. Stopped stop self.old self.new) }
         ensures front { OnOk result (self.new.front ≡ self.old.front) }
         ensures guard { self.new.guard ≡ self.old.guard }
+        ensures sets { self.new.sets ≡ self.old.sets }
         ensures silent { OnErr result (self.new.sent ≡ self.old.sent) }
         ensures failed { (result ≡ Err (StopValue.Fault Fault.Failed)) ↔ (self.old.router.standing ≡ None) }
         ensures fault { IfSome self.old.router.standing (λ r. IfErr result IsMemoryAlone) }
@@ -253,13 +282,17 @@ impl Session {
         if self.has_untaken() {
             return Err(Stop::Untaken);
         }
-        let mut leaving = Vec::new(alloc);
-        match self
-            .router
-            .packet_seen(draw, iface, source, group, &mut leaving)
-        {
-            Ok(answer) => {
-                self.keep_sent(leaving);
+        let name = SourceGroup { source, group };
+        match shared::see(
+            alloc,
+            self.router.as_mut(),
+            &self.anycast,
+            draw,
+            iface,
+            name,
+        ) {
+            Ok((answer, sent)) => {
+                self.keep_sent(sent);
                 Ok(answer)
             }
             Err(fault) => {
@@ -282,7 +315,7 @@ impl Session {
         ensures front { OnOk result (self.new.front ≡ self.old.front) }
         ensures failed { (result ≡ Err Fault.Failed) ↔ (self.old.router.standing ≡ None) }
         ensures fault { IfSome self.old.router.standing (λ r. IsOkUnless result Fault.Memory) }
-        ensures rest { (self.new.guard ≡ self.old.guard) × (self.new.sent ≡ self.old.sent) × (self.new.rows ≡ self.old.rows)
+        ensures rest { (self.new.guard ≡ self.old.guard) × (self.new.sets ≡ self.old.sets) × (self.new.sent ≡ self.old.sent) × (self.new.rows ≡ self.old.rows)
             × (self.new.older_rows ≡ self.old.older_rows) }
     {
         if self.is_lost {
@@ -300,7 +333,7 @@ impl Session {
     // Keeps packets that were sent in place of those kept before, whose memory goes back to the router.
     fn keep_sent(&mut self, sent: Vec<Emission>)
         ensures sent { self.new.sent ≡ sent.items }
-        ensures rest { (self.new.router ≡ self.old.router) × (self.new.guard ≡ self.old.guard) × (self.new.front ≡ self.old.front) × (self.new.rows ≡ self.old.rows)
+        ensures rest { (self.new.router ≡ self.old.router) × (self.new.guard ≡ self.old.guard) × (self.new.sets ≡ self.old.sets) × (self.new.front ≡ self.old.front) × (self.new.rows ≡ self.old.rows)
             × (self.new.older_rows ≡ self.old.older_rows) }
     {
         let done = mem::replace(&mut self.sent, sent);
@@ -322,7 +355,7 @@ impl Session {
         ensures silent { OnErr result (self.new.rows ≡ self.old.rows) }
         ensures failed { (result ≡ Err Fault.Failed) ↔ (self.old.router.standing ≡ None) }
         ensures fault { IfSome self.old.router.standing (λ r. IsOkUnless result Fault.Memory) }
-        ensures rest { (self.new.router ≡ self.old.router) × (self.new.guard ≡ self.old.guard) × (self.new.front ≡ self.old.front)
+        ensures rest { (self.new.router ≡ self.old.router) × (self.new.guard ≡ self.old.guard) × (self.new.sets ≡ self.old.sets) × (self.new.front ≡ self.old.front)
             × (self.new.sent ≡ self.old.sent) × (self.new.older_rows ≡ self.old.older_rows) }
     {
         if self.is_lost {
@@ -349,7 +382,7 @@ impl Session {
         ensures silent { OnErr result (self.new.front ≡ self.old.front) }
         ensures failed { (result ≡ Err Fault.Failed) ↔ (self.old.router.standing ≡ None) }
         ensures fault { IfSome self.old.router.standing (λ r. IsOkUnless result Fault.Memory) }
-        ensures rest { (self.new.router ≡ self.old.router) × (self.new.guard ≡ self.old.guard) × (self.new.sent ≡ self.old.sent) × (self.new.rows ≡ self.old.rows)
+        ensures rest { (self.new.router ≡ self.old.router) × (self.new.guard ≡ self.old.guard) × (self.new.sets ≡ self.old.sets) × (self.new.sent ≡ self.old.sent) × (self.new.rows ≡ self.old.rows)
             × (self.new.older_rows ≡ self.old.older_rows) }
     {
         if self.is_lost {
@@ -381,7 +414,7 @@ impl Session {
         ensures silent { OnErr result (self.new.front ≡ self.old.front) }
         ensures failed { (result ≡ Err Fault.Failed) ↔ (self.old.router.standing ≡ None) }
         ensures fault { IfSome self.old.router.standing (λ r. IsOkUnless result Fault.Memory) }
-        ensures rest { (self.new.router ≡ self.old.router) × (self.new.guard ≡ self.old.guard) × (self.new.sent ≡ self.old.sent) × (self.new.rows ≡ self.old.rows)
+        ensures rest { (self.new.router ≡ self.old.router) × (self.new.guard ≡ self.old.guard) × (self.new.sets ≡ self.old.sets) × (self.new.sent ≡ self.old.sent) × (self.new.rows ≡ self.old.rows)
             × (self.new.older_rows ≡ self.old.older_rows) }
     {
         if self.is_lost {
@@ -405,7 +438,7 @@ impl Session {
         ensures silent { OnErr result (self.new.older_rows ≡ self.old.older_rows) }
         ensures failed { (result ≡ Err Fault.Failed) ↔ (self.old.router.standing ≡ None) }
         ensures fault { IfSome self.old.router.standing (λ r. IsOkUnless result Fault.Memory) }
-        ensures rest { (self.new.router ≡ self.old.router) × (self.new.guard ≡ self.old.guard) × (self.new.front ≡ self.old.front)
+        ensures rest { (self.new.router ≡ self.old.router) × (self.new.guard ≡ self.old.guard) × (self.new.sets ≡ self.old.sets) × (self.new.front ≡ self.old.front)
             × (self.new.sent ≡ self.old.sent) × (self.new.rows ≡ self.old.rows) }
     {
         if self.is_lost {
@@ -435,7 +468,7 @@ impl Session {
     /// Takes the first of the untaken packets away, if there is one.
     pub fn remove_first(&mut self)
         ensures sent { self.new.sent ≡ drop 1 self.old.sent }
-        ensures rest { (self.new.router ≡ self.old.router) × (self.new.guard ≡ self.old.guard) × (self.new.front ≡ self.old.front) × (self.new.rows ≡ self.old.rows)
+        ensures rest { (self.new.router ≡ self.old.router) × (self.new.guard ≡ self.old.guard) × (self.new.sets ≡ self.old.sets) × (self.new.front ≡ self.old.front) × (self.new.rows ≡ self.old.rows)
             × (self.new.older_rows ≡ self.old.older_rows) }
     {
         if self.has_untaken() {
@@ -446,7 +479,7 @@ impl Session {
     /// Takes all untaken packets away.
     pub fn clear(&mut self)
         ensures sent { self.new.sent ≡ [] }
-        ensures rest { (self.new.router ≡ self.old.router) × (self.new.guard ≡ self.old.guard) × (self.new.front ≡ self.old.front) × (self.new.rows ≡ self.old.rows)
+        ensures rest { (self.new.router ≡ self.old.router) × (self.new.guard ≡ self.old.guard) × (self.new.sets ≡ self.old.sets) × (self.new.front ≡ self.old.front) × (self.new.rows ≡ self.old.rows)
             × (self.new.older_rows ≡ self.old.older_rows) }
     {
         self.taken = self.sent.len();
@@ -466,14 +499,19 @@ impl Session {
         self.older_rows.as_slice()
     }
 
-    /// The timestamp, in ms, at which the next timer expires; `None` where no timer runs, and after a fault.
+    /// The timestamp, in ms, at which the next timer of the router expires, or sources on its links are to be announced to
+    /// the others of a set, whichever is sooner; `None` where neither is so, and after a fault.
+    #[tactic(auto, unfolding(crate::specs::Shared::next_in))]
     pub fn next_moment(&self) -> Option<u64>
-        ensures { result ≡ option_and_then (λ r. next_moment r.state) self.now.router.standing }
+        ensures { result ≡ next_in self.now }
     {
         if self.is_lost {
             return None;
         }
-        self.router.next_moment()
+        sooner(
+            self.router.next_moment(),
+            self.anycast.next(self.router.present_moment()),
+        )
     }
 
     /// How many copies of a data packet the last event sent on links; 0 after a fault.

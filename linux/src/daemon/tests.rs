@@ -646,4 +646,5 @@ mod older;
 mod overridden;
 mod reloaded;
 mod restarted;
+mod shared;
 mod shown;

@@ -73,6 +73,7 @@ __all__ = [
     "Refused",
     "Router",
     "Row",
+    "RpSet",
     "RptRow",
     "Sent",
     "SourceRow",
@@ -95,7 +96,7 @@ Buffer: TypeAlias = bytes | bytearray | memoryview
 Interface: TypeAlias = str | IPv4Interface | tuple[Any, ...]
 
 # What this package and the library have to agree on: VIQ_ABI of viqeshor.h.
-ABI = 8
+ABI = 9
 NEVER, NO_INTERFACE, NO_PLACE, MOST_BYTES = 2**64 - 1, 2**32 - 1, 2**32 - 1, 1528
 # The letters of the tables.
 TABLES = "NGSDAURF"
@@ -135,6 +136,7 @@ class Answer(enum.IntEnum):
     CONFIGURED_RANGES = 38
     OWN_ADDRESSES = 70
     PLACES_DONT_FIT = 73
+    BAD_RP_SET = 74
     MEMORY = 40
     FAILED = 41
     LOST = 43
@@ -181,7 +183,8 @@ class Answer(enum.IntEnum):
 
     @property
     def is_refused(self) -> bool:
-        return Answer.DONE < self < Answer.MEMORY or self in (Answer.OWN_ADDRESSES, Answer.PLACES_DONT_FIT)
+        return Answer.DONE < self < Answer.MEMORY or self in (
+            Answer.OWN_ADDRESSES, Answer.PLACES_DONT_FIT, Answer.BAD_RP_SET)
 
 
 class Error(Exception):
@@ -241,6 +244,10 @@ class CRange(Structure):
     _fields_ = numbers("prefix", "length", "rp")
 
 
+class CRpSet(Structure):
+    _fields_ = [*numbers("shared", "own"), ("others", POINTER(c_uint32)), ("other_count", c_size_t)]
+
+
 class Settings(Structure):
     _fields_ = [
         *numbers("limit", "robustness", "query_interval", "query_response_interval", "last_member_query_interval"),
@@ -297,6 +304,14 @@ class RefusedAt(Structure):
 # ---- what the router answers
 
 KINDS = {1: "frame", 2: "copy", 3: "unicast"}
+
+
+class RpSet(NamedTuple):
+    """A set of routers that share an address, the RP of their groups, as one of them knows it (RFC 4610): the shared
+    address and the router's own by which the others know it, and the own addresses of at most 16 others."""
+    shared: str
+    own: str
+    others: tuple[str, ...]
 
 
 class Sent(NamedTuple):
@@ -380,6 +395,7 @@ CALLS: dict[str, tuple[list[Any], Any]] = {
     "older": ([c_uint32, c_uint32], c_uint32),
     "query_version": ([c_uint32, c_uint32], c_uint32),
     "guard": ([c_uint32], c_uint32),
+    "anycast": (LIST, c_uint32),
     "older_read": ([], c_uint32),
     "older_rows": ([], c_size_t),
     "older_row": ([c_size_t, POINTER(COlderRow)], c_bool),
@@ -403,6 +419,7 @@ RECORDS: dict[str, list[Any]] = {
     "record": [c_char_p, c_size_t],
     "record_routes": LIST,
     "record_ranges": LIST,
+    "record_anycast": LIST,
     "record_reload": [POINTER(Settings), *LIST, *LIST, *LIST],
     "record_reload_places": [POINTER(Settings), *LIST, *LIST, *LIST, *LIST],
 }
@@ -525,6 +542,14 @@ def ranges_of(ranges: Iterable[tuple[str, str]]) -> tuple[Any, int]:
     return array(CRange, [all_numbers(CRange, [*prefix(net), address(rp)]) for net, rp in ranges])
 
 
+def rp_set_of(shared: str, own: str, others: Iterable[str]) -> CRpSet:
+    return CRpSet(address(shared), address(own), *array(c_uint32, [address(text) for text in others]))
+
+
+def rp_sets_of(sets: Iterable[tuple[str, str, Iterable[str]]]) -> tuple[Any, int]:
+    return array(CRpSet, [rp_set_of(*each) for each in sets])
+
+
 def configuration(
     interfaces: Iterable[Interface],
     ranges: Iterable[tuple[str, str]] = (),
@@ -618,8 +643,9 @@ class Router:
     @classmethod
     def restore(cls, saved: Buffer, *, library: str | os.PathLike[str] | None = None) -> Self:
         """A router that goes on from the state that `save` returned: the same events and draws bring the same answers
-        and packets, once `set_older_hosts` and `set_query_version` have set what they had. It has nothing to send, and
-        its guard is on. Raises `Refused` where the bytes are no saved state of a router, whatever they are."""
+        and packets, once `set_rp_sets`, `set_older_hosts` and `set_query_version` have set what they had. It has
+        nothing to send, and its guard is on. Raises `Refused` where the bytes are no saved state of a router, whatever
+        they are."""
         router, made, data = cls.__new__(cls), c_void_p(), bytes_of(saved)
         router._begin(library)
         router._must(router._library.viq_restore(byref(made), ABI, data, len(data)))
@@ -633,6 +659,7 @@ class Router:
     def _keep(self, made: c_void_p) -> None:
         self._router: c_void_p | None = made
         self.has_guard = True
+        self.rp_sets: list[RpSet] = []
         self._sent: list[Sent] = []
         self._room = (c_uint8 * MOST_BYTES)()
         self._took: Callable[[str, int, tuple[Any, ...], Answer], None] | None = None
@@ -706,7 +733,7 @@ class Router:
 
     def save(self) -> bytes:
         """The state of the router as bytes, of which `restore` makes a router that goes on from it. What isn't in them:
-        what the clock showed at timestamp 0, packets that `packets` didn't return, and what `set_guard`,
+        what the clock showed at timestamp 0, packets that `packets` didn't return, and what `set_guard`, `set_rp_sets`,
         `set_older_hosts` and `set_query_version` set."""
         size = c_size_t()
         with self.lock:
@@ -883,6 +910,17 @@ class Router:
         with self.lock:
             self._must(self._recorded("guard", 0, (int(is_on),)))
             self.has_guard = is_on
+
+    def set_rp_sets(self, sets: Iterable[tuple[str, str, Iterable[str]]]) -> None:
+        """Sets the sets of RPs that share an address, each as an `RpSet` has it, in place of those before: none in a
+        new router, and in a restored one. A Register to a set's shared address is then sent on to the others, and
+        sources on the router's own links are announced to them: at once, and at each timestamp that is a multiple of
+        60,000 ms. It is no event. Raises `Refused`, and leaves those before, where the router can't have them
+        (`BAD_RP_SET`). `reload` keeps the sets, and refuses a configuration so to whose addresses they don't fit."""
+        told = [RpSet(shared, own, tuple(others)) for shared, own, others in sets]
+        with self.lock:
+            self._must(self._recorded("anycast", 0, rp_sets_of(told)))
+            self.rp_sets = told
 
     # ---- older versions of IGMP
 

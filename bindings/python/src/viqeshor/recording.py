@@ -15,16 +15,17 @@ import zlib
 from contextlib import suppress
 from ctypes import CDLL, Structure, byref, c_size_t, c_uint32, create_string_buffer
 from io import FileIO
-from itertools import accumulate
+from itertools import accumulate, islice
 from operator import mul
 from pathlib import Path
 from typing import Any, BinaryIO, NamedTuple, Self
 
 from . import (
-    NO_PLACE, Answer, Draw, Error, GivenCall, Router, Settings, CInterface, CRange, CRoute, array,
+    NO_PLACE, Answer, Draw, Error, GivenCall, Router, RpSet, Settings, CInterface, CRange, CRoute, address, array,
+    dotted, rp_sets_of,
 )
 
-MAGIC, VERSION = b"VQRC", 5
+MAGIC, VERSION = b"VQRC", 6
 # Of each kind of record: its letter, and the numbers that it has behind its draw. Bytes and lists follow these.
 KINDS: dict[str, tuple[str, tuple[str, ...]]] = {
     "advance": ("a", ("moment",)),
@@ -41,13 +42,18 @@ KINDS: dict[str, tuple[str, tuple[str, ...]]] = {
     "older": ("o", ("iface", "value")),
     "query_version": ("q", ("iface", "value")),
     "guard": ("d", ("value",)),
+    "anycast": ("y", ()),
 }
 NAMES = {letter: name for name, (letter, _) in KINDS.items()}
 # These are no events: they have no draw, and send nothing.
-QUIET = ("keep", "older", "query_version", "guard")
+QUIET = ("keep", "older", "query_version", "guard", "anycast")
 LISTS: dict[str, Any] = {"routes": CRoute, "ranges": CRange}
-# These are given a configuration, the second one where the interfaces go too. Before version 5 the first was alone.
+# These are given a configuration, the second one where the interfaces go too.
 RELOADS = ("reload", "reload_places")
+# Each of these has a call of its own that writes its record.
+WITH_LISTS = (*LISTS, *RELOADS, "anycast")
+# The versions from which on these are recorded.
+SINCE = {"reload_places": 5, "anycast": 6}
 
 
 class CAddress(Structure):
@@ -74,7 +80,8 @@ class Unreadable(ValueError):
 class Record(NamedTuple):
     """What a router took: the name of its call, the draw, the numbers, and the packet or the lists as bytes; then the
     number that it answered, and the sum of what it sent. A reload, which is no event, has the lengths of its lists as
-    numbers, and the settings before them."""
+    numbers, and the settings before them. Sets of RPs have as numbers how many others each has, and the addresses of
+    all."""
     name: str
     draw: int
     numbers: tuple[int, ...]
@@ -125,9 +132,9 @@ def head_of(older_groups: int, state: bytes) -> bytes:
 def record_of(library: CDLL, name: str, draw: int, values: tuple[Any, ...], answer: int, total: int) -> bytes:
     """The record of a call with these values, as the library writes it."""
     letter, numbers = KINDS[name]
-    fields = {} if name in LISTS or name in RELOADS else dict(zip(numbers, values))
+    fields = {} if name in WITH_LISTS else dict(zip(numbers, values))
     call = GivenCall(letter=ord(letter), draw=draw, answer=answer, sum=total, **fields)
-    if name in LISTS or name in RELOADS:
+    if name in WITH_LISTS:
         return written(getattr(library, f"viq_record_{name}"), call, values)
     return written(library.viq_record, call, values[len(numbers):] or (None, 0))
 
@@ -161,6 +168,7 @@ class Recorder:
         self._file: FileIO | None = None
         self._settings: dict[tuple[str, int], int] = {}
         with router.lock:
+            self._has_guard, self._rp_sets = router.has_guard, rp_sets_of(router.rp_sets)
             self._next_file()
             router._took = self.took
 
@@ -201,12 +209,15 @@ class Recorder:
             before.close()
 
     def _head(self) -> bytes:
-        """What a file begins with: the state that the router has, the settings of older versions, and the guard's."""
+        """What a file begins with: the state that the router has, the settings of older versions, the guard's, and the
+        sets of RPs."""
         state, older = self.router.save(), len(self.router.older_rows())
         library, kept = self.router._library, self._settings.items()
         settings = [record_of(library, name, 0, (iface, value), 0, 0) for (name, iface), value in kept]
-        if not self.router.has_guard:
+        if not self._has_guard:
             settings.append(record_of(library, "guard", 0, (0,), 0, 0))
+        if self._rp_sets[1]:
+            settings.append(record_of(library, "anycast", 0, self._rp_sets, 0, 0))
         return head_of(older, state) + state + b"".join(settings)
 
     def took(self, name: str, draw: int, values: tuple[Any, ...], answer: int) -> None:
@@ -221,6 +232,10 @@ class Recorder:
     def _keep(self, name: str, draw: int, values: tuple[Any, ...], answer: int) -> None:
         if name in ("older", "query_version") and answer == Answer.DONE:
             self._settings[name, values[0]] = values[1]
+        if name == "guard" and answer == Answer.DONE:
+            self._has_guard = values[0] == 1
+        if name == "anycast" and answer == Answer.DONE:
+            self._rp_sets = values
         if name == "reload" and answer == Answer.DONE:
             count = values[2]
             self._settings = {key: value for key, value in self._settings.items() if key[1] < count}
@@ -296,7 +311,7 @@ class _Reader:
         self.sum = 0
         letter = self.bytes(1)
         name = NAMES.get(letter.decode("latin1"))
-        if name is None or name == "reload_places" and self.version < 5:
+        if name is None or self.version < SINCE.get(name, 0):
             raise Unreadable(f"no kind of record has the letter {letter!r}")
         draw, *rest = self.given(name) if self.version > 1 else self.given_version_1(name)
         record = Record(name, draw, *rest, *self.numbers("II"))
@@ -310,6 +325,8 @@ class _Reader:
             return draw, numbers, self.bytes(*self.numbers("Q"))
         if name in LISTS:
             return draw, numbers, self.list(LISTS[name])[1]
+        if name == "anycast":
+            return draw, *self.rp_sets()
         if name in RELOADS:
             limit, stays, *times = self.numbers("IBIIII")
             if stays > 1:
@@ -322,6 +339,11 @@ class _Reader:
         """How many there are, and the fields of each."""
         count, = self.numbers("Q")
         return count, self.bytes(count * 4 * len(kind._fields_))
+
+    def rp_sets(self) -> tuple[tuple[int, ...], bytes]:
+        """Of each set how many others it has; and all addresses, of each set the shared one and the own one first."""
+        sets = [(self.bytes(8), *self.list(CAddress)) for _ in range(*self.numbers("Q"))]
+        return tuple(count for _, count, _ in sets), b"".join(first + others for first, _, others in sets)
 
     def list_before(self, kind: Any) -> tuple[int, bytes]:
         """The same before version 4, which has no addresses of no interface."""
@@ -420,9 +442,23 @@ def values_of(record: Record) -> tuple[Any, ...]:
         return configuration_of(record)
     if record.name == "reload_places":
         return *configuration_of(record), *array(c_uint32, [NO_PLACE if it is None else it for it in places_of(record)])
+    if record.name == "anycast":
+        return rp_sets_of(rp_sets_in(record))
     if record.name in ("frame", "unicast"):
         return (*record.numbers, record.data, len(record.data))
     return record.numbers
+
+
+def rp_sets_in(record: Record) -> list[RpSet]:
+    """The sets of RPs that were given."""
+    addresses = (dotted(bits) for bits, in struct.iter_unpack(">I", record.data))
+    return [RpSet(next(addresses), next(addresses), tuple(islice(addresses, count))) for count in record.numbers]
+
+
+def rp_sets_set(sets: list[RpSet]) -> Record:
+    """The record of these sets of RPs, which were taken."""
+    data = (struct.pack(f">{2 + len(others)}I", *map(address, (shared, own, *others))) for shared, own, others in sets)
+    return Record("anycast", 0, tuple(len(each.others) for each in sets), b"".join(data), Answer.DONE, 0)
 
 
 def restored(told: Recording, library: str | os.PathLike[str] | None = None) -> Router:
@@ -440,6 +476,8 @@ def take(router: Router, record: Record, version: int = VERSION) -> tuple[int, i
     answer, total = Answer(router._call(record.name, *values_of(record), *draw)), 0
     if record.name == "guard" and answer == Answer.DONE:
         router.has_guard = record.numbers[0] == 1
+    if record.name == "anycast" and answer == Answer.DONE:
+        router.rp_sets = rp_sets_in(record)
     if draw and answer == Answer.DONE:
         total = sum_of(router, version)
         router._call("clear")

@@ -5,7 +5,7 @@ ghost use Rattle.toml.specs.View.{view, table_view};
 ghost use Rattle.pim_scenario.specs.Scenario.{IsConfigText, IsTable, NamesLink};
 ghost use Rattle.pim_scenario.specs.Texts.{ReadsExactly};
 
-use super::{ConfigText, Unread, field, router};
+use super::{ConfigText, Unread, field, router, sets};
 use pim_types::Series;
 use std::alloc::Global;
 use toml::{Table, Value};
@@ -27,6 +27,7 @@ pub(super) fn config_text_in(alloc: Global, table: &Table) -> Result<ConfigText,
             "older_hosts",
             "query_version",
             "guard",
+            "anycast",
             "addresses",
             "routes",
             "rps",
@@ -40,6 +41,7 @@ pub(super) fn config_text_in(alloc: Global, table: &Table) -> Result<ConfigText,
         config,
         links,
         front: router::front_in(table)?,
+        sets: sets::sets_in(alloc, field::list_or_empty(table, "anycast")?)?,
     })
 }
 

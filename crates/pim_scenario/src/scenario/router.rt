@@ -10,7 +10,7 @@ ghost use Rattle.pim_scenario.specs.Texts.{ReadsExactly};
 ghost use Rattle.pim_scenario.specs.Links.{names_in};
 
 use super::links::LinkNames;
-use super::{FrontText, Link, RouterText, Scenario, Unread, Wrong, address, field, routes};
+use super::{FrontText, Link, RouterText, Scenario, Unread, Wrong, address, field, routes, sets};
 use igmp_older::{OlderHosts, QueryVersion};
 use pim_types::{Config, InterfaceConfig, Series, SptSwitch};
 use std::alloc::Global;
@@ -68,6 +68,7 @@ fn router_in<'a>(
             "older_hosts",
             "query_version",
             "guard",
+            "anycast",
             "addresses",
             "routes",
             "rps",
@@ -83,6 +84,7 @@ fn router_in<'a>(
         config,
         links,
         front: front_in(table)?,
+        sets: sets::sets_in(alloc, field::list_or_empty(table, "anycast")?)?,
     })
 }
 

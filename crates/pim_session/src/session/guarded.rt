@@ -21,7 +21,7 @@ impl Session {
         ensures silent { OnErr result (self.new.guard ≡ self.old.guard) }
         ensures failed { (result ≡ Err Fault.Failed) ↔ (self.old.router.standing ≡ None) }
         ensures fault { IfErr result (λ fault. fault ≡ Fault.Failed) }
-        ensures rest { (self.new.router ≡ self.old.router) × (self.new.front ≡ self.old.front)
+        ensures rest { (self.new.router ≡ self.old.router) × (self.new.front ≡ self.old.front) × (self.new.sets ≡ self.old.sets)
             × (self.new.sent ≡ self.old.sent) × (self.new.rows ≡ self.old.rows)
             × (self.new.older_rows ≡ self.old.older_rows) }
     {
@@ -56,7 +56,7 @@ impl Session {
         requires { IsSome self.old.router.standing }
         ensures stop { result ≡ StopValue.Guarded }
         ensures still { IsStill self.old.router self.new.router }
-        ensures rest { (self.new.front ≡ self.old.front) × (self.new.guard ≡ self.old.guard)
+        ensures rest { (self.new.front ≡ self.old.front) × (self.new.sets ≡ self.old.sets) × (self.new.guard ≡ self.old.guard)
             × (self.new.sent ≡ self.old.sent) × (self.new.rows ≡ self.old.rows)
             × (self.new.older_rows ≡ self.old.older_rows) }
     {

@@ -8,14 +8,17 @@ ghost use Rattle.pim_router.specs.Asked.{LeadsOn, places_test};
 ghost use Rattle.pim_router.specs.Standing.{beginning};
 ghost use Rattle.pim_session.specs.Front.{emissions_leaving};
 ghost use Rattle.pim_session.specs.Placed.{front_reloaded_by};
+ghost use Rattle.pim_session.specs.Shared.{reload_tested};
 ghost use Rattle.pim_session.specs.Untaken.{IsMemoryAlone, Stopped, has_untaken};
 ghost use Rattle.pim_session.specs.declared.stop.Stop.{Stop as StopValue};
 ghost use Rattle.pim_state.specs.declared.touched.Touched.{Touched as TouchedValue};
 ghost use Rattle.std.specs.Prelude.{◌≡◌, ◌↔◌, [], Err, IfErr, IfOk, IfSome, IsOkUnless, IsTrue, None, Ok, OnErr, OnOk, Some};
 
 use super::Session;
+use crate::asked::Configured;
 use crate::behind::times_in;
 use crate::front::Front;
+use crate::refused::ReloadRefusal;
 use crate::stop::Stop;
 use pim_router::Router;
 use pim_types::{Config, Emission, Fault, Refusal};
@@ -28,8 +31,9 @@ impl Session {
     /// leave as the versions of the old interfaces say; after that the settings of each old interface, and what it
     /// heard, are those of the interface that has its link. What one heard that is left out is forgotten, and one that
     /// is new hears nobody and queries in version 3. As many older hosts are remembered as the new limit says, or as are
-    /// remembered then if these are more. Rows that were read are dropped. A refusal changes nothing. While packets of
-    /// the event before are untaken the answer is `Untaken`, and nothing changes. After a fault the rows are unchanged,
+    /// remembered then if these are more. Rows that were read are dropped. A configuration whose addresses the
+    /// sets of RPs don't fit is refused before all else, and a refusal changes nothing. While packets of the event before
+    /// are untaken the answer is `Untaken`, and nothing changes. After a fault the rows are unchanged,
     /// and the session answers `Failed` from then on.
     pub fn reload_places(
         &mut self,
@@ -37,9 +41,9 @@ impl Session {
         draw: u32,
         config: &Config,
         places: &[Option<u32>],
-    ) -> Result<Result<(), Refusal>, Stop>
+    ) -> Result<Result<(), ReloadRefusal>, Stop>
         ensures accepted { IfSome self.old.router.standing (λ r. IfOk result (λ answer. OnOk answer
-            (places_test r.state places.now config.now ≡ Ok tt))) }
+            (reload_tested self.old.sets config.now (places_test r.state places.now config.now) ≡ Ok tt))) }
         ensures state { IfSome self.old.router.standing (λ r. IfOk result (λ answer. OnOk answer
             (self.new.router.standing ≡ Some (beginning (reload_by r.state places.now config.now draw).0)))) }
         ensures sent { IfSome self.old.router.standing (λ r. IfOk result (λ answer. OnOk answer
@@ -53,9 +57,10 @@ impl Session {
         ensures disturbed { IfOk result (λ answer. OnOk answer
             (self.new.router.disturbed ≡ record { touched = TouchedValue.All; replaced = NoneReplaced })) }
         ensures guard { self.new.guard ≡ self.old.guard }
+        ensures sets { self.new.sets ≡ self.old.sets }
         ensures rows { IfOk result (λ answer. OnOk answer ((self.new.rows ≡ []) × (self.new.older_rows ≡ []))) }
         ensures refused { IfSome self.old.router.standing (λ r. IfOk result (λ answer. IfErr answer (λ refusal.
-            (places_test r.state places.now config.now ≡ Err refusal) × (self.new ≡ self.old)))) }
+            (reload_tested self.old.sets config.now (places_test r.state places.now config.now) ≡ Err refusal) × (self.new ≡ self.old)))) }
         ensures untaken { IfSome self.old.router.standing (λ r.
             (result ≡ Err StopValue.Untaken) ↔ IsTrue (has_untaken self.old)) }
         ensures stopped { IfErr result (λ stop. Stopped stop self.old self.new) }
@@ -69,6 +74,9 @@ impl Session {
         }
         if self.has_untaken() {
             return Err(Stop::Untaken);
+        }
+        if !self.anycast.fits(&Configured::of(config)) {
+            return Ok(Err(ReloadRefusal::SetsDontFit));
         }
         match reload(
             alloc,
@@ -84,7 +92,7 @@ impl Session {
                 self.older_rows = Vec::new(alloc);
                 Ok(Ok(()))
             }
-            Ok(Err(refusal)) => Ok(Err(refusal)),
+            Ok(Err(refusal)) => Ok(Err(ReloadRefusal::Configuration(refusal))),
             Err(fault) => {
                 self.is_lost = true;
                 Err(Stop::Fault(fault))

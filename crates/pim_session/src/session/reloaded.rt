@@ -9,14 +9,17 @@ ghost use Rattle.pim_router.specs.Asked.{LeadsOn};
 ghost use Rattle.pim_router.specs.Standing.{beginning};
 ghost use Rattle.pim_session.specs.Front.{emissions_leaving};
 ghost use Rattle.pim_session.specs.Reloaded.{front_reloaded};
+ghost use Rattle.pim_session.specs.Shared.{reload_tested};
 ghost use Rattle.pim_session.specs.Untaken.{IsMemoryAlone, Stopped, has_untaken};
 ghost use Rattle.pim_session.specs.declared.stop.Stop.{Stop as StopValue};
 ghost use Rattle.pim_state.specs.declared.touched.Touched.{Touched as TouchedValue};
 ghost use Rattle.std.specs.Prelude.{◌≡◌, ◌↔◌, [], Err, IfErr, IfOk, IfSome, IsOkUnless, IsTrue, None, Ok, OnErr, OnOk, Some};
 
 use super::Session;
+use crate::asked::Configured;
 use crate::behind::times_in;
 use crate::front::Front;
+use crate::refused::ReloadRefusal;
 use crate::stop::Stop;
 use pim_router::Router;
 use pim_types::{Config, Emission, Fault, Refusal};
@@ -24,20 +27,21 @@ use std::alloc::{AllocError, Global};
 use std::mem;
 
 impl Session {
-    /// Puts the router under another configuration, as `Router::reload` does, and keeps the packets that leave. Where something stands before the router, queries leave as the versions of the interfaces
-    /// say; after that the first interfaces keep their settings and what they heard, and one that is added hears nobody
-    /// and queries in version 3. As many older hosts are remembered as the new limit says, or as are remembered already
-    /// if these are more. Rows that were read are dropped. A refused configuration changes nothing. While
-    /// packets of the event before are untaken the answer is `Untaken`, and nothing changes. After a fault the rows are
+    /// Puts the router under another configuration, as `Router::reload` does, and keeps the packets that leave. Where
+    /// something stands before the router, queries leave as the versions of the interfaces say; after that the first
+    /// interfaces keep their settings and what they heard, and one that is added hears nobody and queries in version 3. As
+    /// many older hosts are remembered as the new limit says, or as are remembered already if these are more. Rows that
+    /// were read are dropped. A configuration whose addresses the sets of RPs don't fit is refused before all else, and a
+    /// refusal changes nothing. While packets of the event before are untaken the answer is `Untaken`, and nothing changes. After a fault the rows are
     /// unchanged, and the session answers `Failed` from then on.
     pub fn reload(
         &mut self,
         alloc: Global,
         draw: u32,
         config: &Config,
-    ) -> Result<Result<(), Refusal>, Stop>
+    ) -> Result<Result<(), ReloadRefusal>, Stop>
         ensures accepted { IfSome self.old.router.standing (λ r. IfOk result (λ answer. OnOk answer
-            (config_test config.now ≡ Ok tt))) }
+            (reload_tested self.old.sets config.now (config_test config.now) ≡ Ok tt))) }
         ensures state { IfSome self.old.router.standing (λ r. IfOk result (λ answer. OnOk answer
             (self.new.router.standing ≡ Some (beginning (reload r.state config.now draw).0)))) }
         ensures sent { IfSome self.old.router.standing (λ r. IfOk result (λ answer. OnOk answer
@@ -51,8 +55,9 @@ impl Session {
         ensures disturbed { IfOk result (λ answer. OnOk answer
             (self.new.router.disturbed ≡ record { touched = TouchedValue.All; replaced = NoneReplaced })) }
         ensures guard { self.new.guard ≡ self.old.guard }
+        ensures sets { self.new.sets ≡ self.old.sets }
         ensures rows { IfOk result (λ answer. OnOk answer ((self.new.rows ≡ []) × (self.new.older_rows ≡ []))) }
-        ensures refused { IfOk result (λ answer. IfErr answer (λ refusal. (config_test config.now ≡ Err refusal)
+        ensures refused { IfOk result (λ answer. IfErr answer (λ refusal. (reload_tested self.old.sets config.now (config_test config.now) ≡ Err refusal)
             × (self.new ≡ self.old))) }
         ensures untaken { IfSome self.old.router.standing (λ r.
             (result ≡ Err StopValue.Untaken) ↔ IsTrue (has_untaken self.old)) }
@@ -68,6 +73,9 @@ impl Session {
         if self.has_untaken() {
             return Err(Stop::Untaken);
         }
+        if !self.anycast.fits(&Configured::of(config)) {
+            return Ok(Err(ReloadRefusal::SetsDontFit));
+        }
         match reload(alloc, self.router.as_mut(), &mut self.front, draw, config) {
             Ok(Ok(sent)) => {
                 self.keep_sent(sent);
@@ -75,7 +83,7 @@ impl Session {
                 self.older_rows = Vec::new(alloc);
                 Ok(Ok(()))
             }
-            Ok(Err(refusal)) => Ok(Err(refusal)),
+            Ok(Err(refusal)) => Ok(Err(ReloadRefusal::Configuration(refusal))),
             Err(fault) => {
                 self.is_lost = true;
                 Err(Stop::Fault(fault))

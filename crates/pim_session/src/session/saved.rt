@@ -16,14 +16,14 @@ use std::alloc::Global;
 
 impl Session {
     /// A session of the router that is in the state that these bytes say, as `Router::restore` makes it, behind a front that
-    /// has the rows of older hosts in them. Nobody is heard until `set_older_hosts` says otherwise, and no packets and no
-    /// rows are kept. The fault is want of memory.
+    /// has the rows of older hosts in them. Nobody is heard until `set_older_hosts` says otherwise, the router is in no
+    /// set of RPs, and no packets and no rows are kept. The fault is want of memory.
     pub fn restore(alloc: Global, bytes: &[u8]) -> Result<Result<Session, HeldRefusal>, Fault>
         ensures restored { IfOk result (λ made. IfOk made (λ s. (h : Held) → held_reading bytes.now ≡ Ok h
             → (s.router ≡ begun h.state) × (s.front ≡ front_resumed h.state h.hosts))) }
         ensures led { IfOk result (λ made. IfOk made (λ s. IfSome s.router.standing (λ r. GoesOnFrom bytes.now r.state))) }
         ensures tested { IfOk result (λ made. IfOk made (λ s. held_restore_test bytes.now ≡ Ok tt)) }
-        ensures rest { IfOk result (λ made. IfOk made (λ s. (s.guard ≡ true) × (s.sent ≡ []) × (s.rows ≡ [])
+        ensures rest { IfOk result (λ made. IfOk made (λ s. (s.sets ≡ []) × (s.guard ≡ true) × (s.sent ≡ []) × (s.rows ≡ [])
             × (s.older_rows ≡ []))) }
         ensures refused { IfOk result (λ made. IfErr made (λ refusal. held_restore_test bytes.now ≡ Err refusal)) }
         ensures memory { IfErr result (λ fault. fault ≡ Fault.Memory) }
@@ -36,7 +36,7 @@ impl Session {
 
     /// Adds the bytes of the router's state after those that are there, with the rows of older hosts that the router's
     /// front has; without any they are those of `Router::save`. What is set of interfaces and of the guard isn't in them,
-    /// nor are the packets and the rows that are kept. After a fault the bytes are as they were.
+    /// nor are the sets of RPs, and the packets and the rows that are kept. After a fault the bytes are as they were.
     pub fn save(&self, out: &mut Vec<u8>) -> Result<(), Fault>
         ensures saved { IfSome self.now.router.standing (λ r. OnOk result
             (out.new.items ≡ out.old.items ++ held_text (held_of r.state self.now.front))) }

@@ -33,6 +33,7 @@ REFUSALS = {
     39: "BadScenario",
     70: "OwnAddresses",
     73: "PlacesDontFit",
+    74: "BadRpSet",
 }
 # The numbers of reasons to ignore.
 IGNORED = {

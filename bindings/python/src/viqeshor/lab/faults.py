@@ -1,7 +1,8 @@
 """What is wrong with a scenario file: every fault with its line, and the number with which `pimlab` refuses it.
 
 The rules are those of docs/SCENARIOS.md. 39 is anything that keeps the file from being read as a scenario; 30 to 38 and
-70 are the tests of a router's configuration, in this order, of one router after the other.
+70 are the tests of a router's configuration, in this order, of one router after the other; 74 is then the test of all
+routers' sets of RPs that share an address.
 """
 import re
 import sys
@@ -15,11 +16,11 @@ from viqeshor.lab import toml_lines
 from viqeshor.lab.addresses import BELOW, address_in, dotted, is_group, is_host, mask, number_in, prefix_in, words_in
 from viqeshor.lab.facts import DELAYS, SETTINGS, USUAL
 
-MOST_ROUTERS, MOST_IFACES, MOST_ROUTES, MOST_RPS, MOST_ADDRESSES = 64, 120, 100_000, 256, 16
+MOST_ROUTERS, MOST_IFACES, MOST_ROUTES, MOST_RPS, MOST_ADDRESSES, MOST_OTHERS = 64, 120, 100_000, 256, 16, 16
 
 CONFIG_KEYS = [
-    "iface", "limit", "spt", "rv", "qi", "qri", "lmqi", "older_hosts", "query_version", "guard", "addresses", "routes",
-    "rps",
+    "iface", "limit", "spt", "rv", "qi", "qri", "lmqi", "older_hosts", "query_version", "guard", "anycast", "addresses",
+    "routes", "rps",
 ]
 ROUTER_KEYS = ["name", *CONFIG_KEYS]
 IFACE_KEYS = ["link", "address", "priority", "propagation", "override"]
@@ -39,6 +40,7 @@ MOVE_KEYS = {
 }
 ROUTE_FORM = '"PREFIX NEXTHOP IFACE PREFERENCE METRIC", as "10.1.0.0/24 10.0.0.1 0 110 20"'
 RP_FORM = '"PREFIX RP", as "239.0.0.0/8 10.0.0.1"'
+SET_FORM = '"SHARED OWN OTHER ..", as "10.9.9.9 10.0.0.2 10.0.0.3"'
 ADDRESS_FORM = '"ADDRESS", as "10.255.0.1"'
 PLACE_FORM = 'the number of an interface of the configuration as a text, as "0", or "none"'
 FORMS = {
@@ -56,6 +58,7 @@ FORMS = {
     "config": "a table with the keys of a router but its name",
     "list of places": f"a list with an item for each interface that the router has, each {PLACE_FORM}",
     "list of addresses": f"a list of the router's own addresses of no interface, each {ADDRESS_FORM}",
+    "list of anycast": f"a list of sets of RPs that share an address, each {SET_FORM}",
     "list of routes": f"a list of routes, each {ROUTE_FORM}",
     "list of rps": f"a list of RP ranges, each {RP_FORM}",
 }
@@ -97,6 +100,16 @@ class Own:
     """An own address of no interface."""
     line: int
     address: int
+
+
+@dataclass(frozen=True, eq=False)
+class RpSet:
+    """A set of RPs that share an address."""
+    line: int
+    text: str
+    shared: int
+    own: int
+    others: tuple[int, ...]
 
 
 # ---- words
@@ -246,6 +259,7 @@ class Judge:
         version = table.get("query_version")
         if version is not None and self.number(table, "query_version", 3, where) not in (2, 3, None):
             self.fault(version.line, where, f"`query_version` is {found(version)}, and wanted is 2 or 3")
+        made["sets"] = self.texts(table, "anycast", where, self.rp_set, FORMS["list of anycast"], False)
         made["addresses"] = self.texts(table, "addresses", where, self.own, FORMS["list of addresses"], False)
         made["routes"] = self.texts(table, "routes", where, self.route, FORMS["list of routes"], False)
         made["rps"] = self.texts(table, "rps", where, self.rp, FORMS["list of rps"], False)
@@ -290,7 +304,7 @@ class Judge:
         table: toml_lines.Value,
         key: str,
         where: str,
-        read: Callable[[list[str], toml_lines.Value, str], Route | Own | None],
+        read: Callable[[list[str], toml_lines.Value, str], Route | Own | RpSet | None],
         form: str,
         must: bool,
     ) -> list[Any]:
@@ -358,6 +372,19 @@ class Judge:
             )
         return Route(inner.line, inner.held, *prefix, rp) if prefix and rp is not None else None
 
+    def rp_set(self, words: list[str], inner: toml_lines.Value, place: str) -> RpSet | None:
+        if len(words) < 2:
+            what = f'"{inner.held}" has {count(words)}, and a set of RPs has at least two: {SET_FORM}'
+            return self.fault(inner.line, place, what)
+        found_here = [address_in(word) for word in words]
+        for word, address in zip(words, found_here):
+            if address is None:
+                self.fault(inner.line, place, f'"{inner.held}": `{word}` is no address: {why_no_address(word)}')
+        if None in found_here:
+            return None
+        shared, own, *others = found_here
+        return RpSet(inner.line, inner.held, shared, own, tuple(others))
+
     # ---- moves
 
     def move(self, table: toml_lines.Value, where: str) -> None:
@@ -424,6 +451,49 @@ class Judge:
             self.fault(table.get("hex").line, where, f"{what}: wanted is {FORMS['hex']}")
         elif len(text) % 2:
             self.fault(table.get("hex").line, where, f"`hex` has {len(text)} digits, which is odd: each byte has two")
+
+
+# ---- a router's sets of RPs: refusal 74
+
+
+def set_fault(each: RpSet, sets: list[RpSet], ours: set[int | None]) -> str | None:
+    """Why a set of RPs is refused among all sets of a router that has these addresses, or None."""
+    shared, at = {one.shared for one in sets}, sets.index(each)
+    for what, address in (("shared", each.shared), ("own", each.own)):
+        if address not in ours:
+            return f"the {what} address {dotted(address)} isn't the router's"
+    if each.own in shared:
+        return f"the own address {dotted(each.own)} is one that routers share"
+    if len(each.others) > MOST_OTHERS:
+        return f"there are {len(each.others)} others, and at most {MOST_OTHERS} are allowed"
+    for place, other in enumerate(each.others):
+        if not is_host(other):
+            return f"{dotted(other)} is no host's address: 0.0.0.0, or 224.0.0.0 and above"
+        if other in ours:
+            return f"{dotted(other)} is the router's, and none of the others of the set"
+        if other in each.others[:place]:
+            return f"{dotted(other)} stands twice"
+    earlier = next((one for one in sets[:at] if one.shared == each.shared), None)
+    return None if earlier is None else f"{dotted(each.shared)} is shared in another set, in line {earlier.line}"
+
+
+def sets_fit(table: dict[str, Any]) -> bool:
+    """Whether a router of a scenario's configuration can have its sets of RPs."""
+    sets = [RpSet(0, text, *map(address_in, words_in(text)[:2]), tuple(map(address_in, words_in(text)[2:])))
+            for text in table.get("anycast", [])]
+    ours = {prefix_in(iface["address"])[0] for iface in table["iface"]}
+    ours |= set(map(address_in, table.get("addresses", [])))
+    return not any(set_fault(each, sets, ours) for each in sets)
+
+
+def set_faults(router: dict[str, Any]) -> Iterator[Fault]:
+    """What is wrong with a router's sets of RPs."""
+    where = f"{router['where']}, `anycast`"
+    ours = {own.address for own in (*router["ifaces"], *router["addresses"])}
+    for each in router["sets"]:
+        what = set_fault(each, router["sets"], ours)
+        if what:
+            yield Fault(each.line, where, f'"{each.text}": {what}', 74)
 
 
 # ---- a router's configuration: refusals 30 to 38, and 70
@@ -569,6 +639,9 @@ def faults_of(text: str, most_routers: int = MOST_ROUTERS) -> tuple[Judge, int]:
             found_here = [Fault(line, where, what, test) for test, line, where, what in configuration_faults(router)]
             number = number or min((fault.number for fault in found_here), default=0)
             judge.faults += found_here
+        unfit = [fault for router in judge.routers for fault in set_faults(router)]
+        number = number or (74 if unfit else 0)
+        judge.faults += unfit
     judge.faults.sort(key=lambda fault: fault.line)
     return judge, number
 

@@ -5,7 +5,7 @@ from collections.abc import Iterable, Iterator
 from dataclasses import dataclass
 from typing import TYPE_CHECKING, Any
 
-from viqeshor.lab.addresses import dotted, prefix_in, range_words, route_words
+from viqeshor.lab.addresses import dotted, prefix_in, range_words, route_words, words_in
 from viqeshor.lab.facts import DELAYS, SETTINGS, USUAL
 
 if TYPE_CHECKING:
@@ -38,6 +38,11 @@ def settings(table: dict[str, Any]) -> dict[str, Any]:
 def has_guard(table: dict[str, Any]) -> bool:
     """Whether a guard stands before a router: in a scenario none does where none is said."""
     return table.get("guard") == "on"
+
+
+def rp_sets(table: dict[str, Any]) -> list[tuple[str, str, list[str]]]:
+    """The sets of RPs that share an address: the shared one, the own one, and those of the others."""
+    return [(shared, own, others) for shared, own, *others in map(words_in, table.get("anycast", []))]
 
 
 def routes(texts: Iterable[str]) -> Iterator[tuple[str | int, ...]]:

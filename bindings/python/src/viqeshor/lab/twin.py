@@ -6,7 +6,7 @@ from os import PathLike
 from typing import TYPE_CHECKING, Any
 
 import viqeshor
-from viqeshor.lab import fed, printed
+from viqeshor.lab import faults, fed, printed
 from viqeshor.lab.scenario import places_of
 from viqeshor.rows import ends
 
@@ -38,8 +38,11 @@ def restored(state: bytes, table: dict[str, Any]) -> viqeshor.Router:
 
 
 def set_as(router: viqeshor.Router, table: dict[str, Any]) -> viqeshor.Router:
-    """A router that is new or restored, with the guard and the older versions that a scenario's configuration says."""
+    """A router that is new or restored, with the guard, the sets of RPs and the older versions that a scenario's
+    configuration says."""
     router.set_guard(fed.has_guard(table))
+    if "anycast" in table:
+        router.set_rp_sets(fed.rp_sets(table))
     for iface, _ in enumerate(table["iface"]):
         if "older_hosts" in table:
             router.set_older_hosts(iface, table["older_hosts"])
@@ -59,20 +62,37 @@ def take(router: viqeshor.Router, event: fed.Event, table: dict[str, Any]) -> vi
     """What a router answers to an event. The table is its configuration until then."""
     if event.name == "reload":
         return reload(router, event, table)
+    if event.name == "advance" and "anycast" in table:
+        stop_on_the_way(router, *event.values, event.draw)
     call, read = CALLS.get(event.name, (event.name, None))
     values = [list(read(value)) for value in event.values] if read else event.values
     return getattr(router, call)(*values, draw=event.draw)
+
+
+def stop_on_the_way(router: viqeshor.Router, moment: int, draw: int) -> None:
+    """Time passes at a router with sets of RPs up to its last timer before a moment, and stops at each, by which its
+    sources are announced when that is due."""
+    while (ends := router.next_moment()) is not None and ends < moment:
+        router.advance(ends, draw=draw)
 
 
 def reload(router: viqeshor.Router, event: fed.Event, before: dict[str, Any]) -> viqeshor.Answer:
     """What a router answers to another configuration. Interfaces that are new, or where another setting is, hear older
     hosts as it says."""
     config, places = event.values
+    if not faults.sets_fit(config):
+        return viqeshor.Answer.BAD_RP_SET
     lists = fed.interfaces(config), fed.ranges(config.get("rps", [])), fed.routes(config.get("routes", []))
+    if "anycast" in before:
+        router.set_rp_sets([])
     try:
         router.reload(*lists, places=places, draw=event.draw, **fed.settings(config))
     except viqeshor.Refused as refused:
+        if "anycast" in before:
+            router.set_rp_sets(fed.rp_sets(before))
         return refused.answer
+    if "anycast" in config:
+        router.set_rp_sets(fed.rp_sets(config))
     router.set_guard(fed.has_guard(config))
     was, hosts = (table.get("older_hosts", "none") for table in (before, config))
     stay = range(len(before["iface"])) if places is None else places
