@@ -46,7 +46,7 @@ impl Play {
     pub fn with(self, rt: &HostRuntime, router: &mut Router) -> io::Result<()> {
         match self {
             Play::Served => serve(rt, router),
-            Play::JoinedSource => joined_source(rt, router),
+            Play::JoinedSource => play_joined_source(rt, router),
             Play::EightSources => eight_sources(rt, router),
             Play::LongerRoute => longer_route(rt, router),
             Play::AnotherDr => another_dr(rt, router),
@@ -106,7 +106,7 @@ fn take_route(rt: &HostRuntime, router: &mut Router, prefix: Prefix) -> io::Resu
     tell_touched(rt, router)
 }
 
-fn joined_source(rt: &HostRuntime, router: &mut Router) -> io::Result<()> {
+fn play_joined_source(rt: &HostRuntime, router: &mut Router) -> io::Result<()> {
     begin(rt, router)?;
     println!(rt; "\nA joined source, and others")?;
     take_join(rt, router, near(5))?;

@@ -107,7 +107,7 @@ fn give_packet(alloc: Global, packet: &Ipv4View<'_>, out: &mut Vec<u8>) -> Resul
 /// place is written behind what stands in `out`. The router elects by it, with its configured values. An `Err` is want of
 /// memory, and changes nothing. Any other packet takes no memory.
 #[tactic(auto, using(crate::proofs::Passing::no_queries), unfolding(crate::specs::Routers::queried))]
-pub fn give_query(alloc: Global, bytes: &[u8], out: &mut Vec<u8>) -> Result<bool, AllocError>
+pub fn translate_query(alloc: Global, bytes: &[u8], out: &mut Vec<u8>) -> Result<bool, AllocError>
     ensures ok { IfOk result (λ written. Wrote written (option_map query_packet (queried bytes.now))
         out.old.items out.new.items) }
     ensures err { OnErr result (out.new.items ≡ out.old.items) }

@@ -30,7 +30,7 @@ fn is_held<Q: Querier>(querier: &Q, key: Key, row: HostRow) -> bool
 
 // The rows that are held, as they are saved.
 #[tactic(auto, unfolding(crate::specs::Hosts::saved_hosts))]
-fn held_of<Q: Querier>(
+fn rows_to_save<Q: Querier>(
     alloc: Global,
     querier: &Q,
     rows: Iter<'_, Key, PresentRow>,
@@ -61,7 +61,7 @@ pub fn saved_hosts<Q: Querier>(
     ensures rise { IfOk result (λ hosts. Rises hosts.items) }
 {
     let rows = presence.rows();
-    held_of(alloc, querier, rows)
+    rows_to_save(alloc, querier, rows)
 }
 
 /// Whether a querier can have these rows of older hosts: each is of a group that these may join, and of which the querier

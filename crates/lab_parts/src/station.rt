@@ -6,7 +6,7 @@ ghost use Rattle.std.specs.Prelude.{◌≡◌, IfOk, map};
 
 use crate::line::{BadSetsLine, GuardedLine, MoveLine, PacketLine, Way};
 use igmp_older::{
-    OlderHosts, Presence, PresentRow, QueryVersion, ResponseTimes, cut_query, give_query,
+    OlderHosts, Presence, PresentRow, QueryVersion, ResponseTimes, cut_query, translate_query,
 };
 use pim_anycast::Anycast;
 use pim_guard::{stops_frame, stops_unicast};
@@ -187,7 +187,7 @@ impl Station {
             return Ok(bytes);
         }
         let mut query = Vec::new(alloc);
-        if give_query(alloc, bytes.as_slice(), &mut query)? {
+        if translate_query(alloc, bytes.as_slice(), &mut query)? {
             return Ok(Series::from_vec(query));
         }
         Ok(bytes)

@@ -9,18 +9,18 @@ use Rattle.law_streams.{specs.{InTimeJoins.{IsRp, Join, is_lost_at, is_wanted, j
 -- ---- no time is taken back
 
 module _ (s : State) where
-  abbrev IsLater : State → Type 0
-  IsLater t = s.present ≤ t.present
+  abbrev IsLaterFrame : State → Type 0
+  IsLaterFrame t = s.present ≤ t.present
 
-  same_later : (t : State) → t.present ≡ s.present → IsLater t
+  same_later : (t : State) → t.present ≡ s.present → IsLaterFrame t
   same_later t e = subst (λ (p : ℕ). s.present ≤ p) (sym e) (no_later s.present)
 
-  follows_later : (o : State) (c : State × List Message) (w : ℕ) → IsLater o → IsLater c.0 → IsLater (settled o c w).0
+  follows_later : (o : State) (c : State × List Message) (w : ℕ) → IsLaterFrame o → IsLaterFrame c.0 → IsLaterFrame (settled o c w).0
   follows_later o c w f g = subst (λ (u : Unsettled). s.present ≤ u.present) (sym (settling_leaves o c w)) g
 
-  pub step_later : (e : Event) → IsLater (step s e).state
+  pub step_later : (e : Event) → IsLaterFrame (step s e).state
   step_later e =
-      event_walks IsLater (λ o t. IsLater t) s e (no_later s.present) (λ m le. subst (λ (p : ℕ). s.present ≤ p) (sym (there s e.draw m)) le)
+      event_walks IsLaterFrame (λ o t. IsLaterFrame t) s e (no_later s.present) (λ m le. subst (λ (p : ℕ). s.present ≤ p) (sym (there s e.draw m)) le)
       (λ a is. same_later (change s e.draw a).state (change_present s e.draw a)) follows_later
 
 -- ---- a Join timer is near

@@ -5,7 +5,7 @@ use Rattle.pim_types.{specs.{declared.{config.IfaceId.IfaceId, event.Event.Event
 use Rattle.igmp_wire.{specs.{Values.Record, declared.report.RecordType.RecordType}}
 use Rattle.pim_model.{specs.{declared.accepted.Accepted.Accepted, Cause.{done_as, if_done}, Judging.{Judged, judged}, Querier.query_end, Receivers.{local_receiver_exclude, local_receiver_star}, State.State, Step.step, Tables.{Table, has_row}}}
 use Rattle.law_settled.{proofs.{ListLaws.each_both, Steps.step_is_settled}, specs.Ready.IsSettled}
-use Rattle.igmp_older.{specs.{Joined.{Both, event_given, joined, joined_step, kind_given, present_end, rows_of}, Open.{IsMild, IsMildAbout, IsMildHere, IsOpen}, Presence.timers_at, declared.mode.PresentRow.PresentRow}, proofs.{LiveLaws.live_there, OpenLaws.open_is_served}}
+use Rattle.igmp_older.{specs.{Joined.{Both, event_given, joined, joined_step, kind_given, present_end, rows_of}, Open.{IsMild, IsMildAbout, IsMildOnInterface, IsOpen}, Presence.timers_at, declared.mode.PresentRow.PresentRow}, proofs.{LiveLaws.live_there, OpenLaws.open_is_served}}
 use Rattle.law_hosts.{specs.{Held.{AllMayHold, IsHeld, MayHold, TakenHolds, knows_until}, Staying.KeepsOpen}, proofs.{Events.event_keeps_open, Judged.{Barred, IsBarred, all_barred}, Known.{older_mode, stays_known}}}
 
 pub still_settled : (b : Both) (e : Event) → IsSettled b.state → IsSettled (joined_step b e).1.state
@@ -21,13 +21,13 @@ module _ (t i g : ℕ) where
     Answered r = r.group ≡ g → r.type ≡ RecordType.ToInclude → nat_le t (query_end s i) ≡ true
 
     elsewhere : (j : IfaceId) → (j.number == i) ≡ false → (records : List Record)
-        → AllByRecursion (IsMildHere t i g (query_end s j.number) (present_end s j.number) j.number) records
+        → AllByRecursion (IsMildOnInterface t i g (query_end s j.number) (present_end s j.number) j.number) records
     elsewhere j e [] = tt
     elsewhere j e (r ∷ rs) = (λ here. let no : (j.number == i) ≡ true = first_so (j.number == i) (r.group == g) here in absurd cc, elsewhere j e rs)
 
     report_leaves : (j : IfaceId) (records : List Record) → ((j.number == i) ≡ true → AllByRecursion (IsMildAbout 0 0 g) records)
         → ((j.number == i) ≡ true → AllByRecursion Answered records)
-        → AllByRecursion (IsMildHere t i g (query_end s j.number) (present_end s j.number) j.number) records
+        → AllByRecursion (IsMildOnInterface t i g (query_end s j.number) (present_end s j.number) j.number) records
     report_leaves j records barred answered = grind (arith, eqb-true, each_both, stronger, elsewhere)
 
     accepted_leaves : (a : Accepted) → Barred t i g a → TakenHolds t i g s (Some a) → KeepsOpen t i g s (Some a)

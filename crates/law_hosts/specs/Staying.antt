@@ -5,7 +5,7 @@ use Rattle.pim_types.{specs.declared.event.Event.Event}
 use Rattle.pim_model.{specs.{declared.accepted.Accepted.Accepted, Cause.done_as, Querier.{group_end, query_end}, State.State, Step.step}}
 use Rattle.law_settled.{specs.Ready.IsSettled}
 use Rattle.law_streams.{specs.Copies.happens}
-use Rattle.igmp_older.{specs.{Joined.present_end, Open.{IsMildHere, IsOpen, runs_until}}}
+use Rattle.igmp_older.{specs.{Joined.present_end, Open.{IsMildOnInterface, IsOpen, runs_until}}}
 
 -- what may close a group on interface i before t: time that passes to t, the interface going down, a query of the group
 -- with S clear, and a report that isn't mild
@@ -14,7 +14,7 @@ KeepsOpen t i g s (Some (Accepted.Advance moment)) = nat_le t moment ≡ false
 KeepsOpen t i g s (Some (Accepted.Down j)) = (j.number == i) ≡ false
 KeepsOpen t i g s (Some (Accepted.Query j from q)) = ((j.number == i) && ((q.group == g) && not q.suppress)) ≡ false
 KeepsOpen t i g s (Some (Accepted.Report j records)) =
-    AllByRecursion (IsMildHere t i g (query_end s j.number) (present_end s j.number) j.number) records
+    AllByRecursion (IsMildOnInterface t i g (query_end s j.number) (present_end s j.number) j.number) records
 KeepsOpen t i g s o = Unit {0}
 
 -- A group that is open is open after an event of `KeepsOpen`.

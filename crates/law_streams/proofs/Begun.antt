@@ -2,7 +2,7 @@
 use Rattle.std.{proofs.Common.{◌≡◌, ◌∙◌, ℕ, suc, ◌+◌, List, [], ◌∷◌, ◌++◌, length, Some, refl, sym, ap, subst, arith}}
 use Rattle.pim_types.{specs.declared.event.Event.Event}
 use Rattle.pim_model.{specs.{Network.{At, Deliver, Move, Network, moved, network_ran, station_at}, State.State, Step.{state_after, step}}}
-use Rattle.law_streams.{specs.{Networks.events_in, Flows.{IsCarried, IsFlowed, IsLater, top_link}, HostsServed.became, Ways.{AreApart, IsGroup, IsNotAmong, Place, StandIn, state_of, up_iface}, Begun.{BeginsAt, BegunStreamIsServed, ByJoin, ByReport, EachOfBegunStreamIsServed, HasBegun, HasTakenAt, HaveBegun, HostBeginsStream, JoinBeginsSending}, Climbing.delivered, Passing.{Receiver, Tree}, StreamRoots.Sends, Streams.{IsStreamed, PassesAt}}, proofs.{Networks.runs_alone, Climbs.still_stand, Deliveries.{IsStepped, is_moved}, Hosts.{host_asks, report_makes_member}, Passes.join_event, Begins.{begins, begins_sending}, Climbing.stepped_so, Passing.run_keeps_passing, StreamRoots.{did, put_on, run_keeps_sending}, Streams.{streams, member_begins_stream}}}
+use Rattle.law_streams.{specs.{Networks.events_in, Flows.{IsCarried, IsFlowed, IsLaterFrame, top_link}, HostsServed.became, Ways.{AreApart, IsGroup, IsNotAmong, Place, StandIn, state_of, up_iface}, Begun.{BeginsAt, BegunStreamIsServed, ByJoin, ByReport, EachOfBegunStreamIsServed, HasBegun, HasTakenAt, HaveBegun, HostBeginsStream, JoinBeginsSending}, Climbing.delivered, Passing.{Receiver, Tree}, StreamRoots.Sends, Streams.{IsStreamed, PassesAt}}, proofs.{Networks.runs_alone, Climbs.still_stand, Deliveries.{IsStepped, is_moved}, Hosts.{host_asks, report_makes_member}, Passes.join_event, Begins.{begins, begins_sending}, Climbing.stepped_so, Passing.run_keeps_passing, StreamRoots.{did, put_on, run_keeps_sending}, Streams.{streams, member_begins_stream}}}
 use Rattle.law_settled.{proofs.Steps.step_is_settled}
 
 pub host_begins_stream : HostBeginsStream
@@ -94,7 +94,7 @@ record Now (by : ℕ → Receiver) (m : Network) (g src link : ℕ) (ps : List P
   apart : AreApart ps → AreApart places
   top : top_link link places ≡ top_link link ps
   long : length places ≡ length ps
-  later : (x : Network) (k : ℕ) → IsLater x k places → IsLater x k ps
+  later : (x : Network) (k : ℕ) → IsLaterFrame x k places → IsLaterFrame x k ps
 
 now_of : (by : ℕ → Receiver) (g rp src link : ℕ) → IsGroup g rp → (n : Network) (ms : List Move) (ps : List Place)
     → HaveBegun by g rp src link n ms ps → Now by (network_ran n ms).1 g src link ps

@@ -5,7 +5,7 @@ use Rattle.pim_types.{specs.declared.{config.IfaceId.IfaceId, event.{Event.Event
 use Rattle.pim_wire.{specs.{Messages.pim_reading, Values.Encapsulated, declared.view.PimView.PimView}}
 use Rattle.igmp_wire.{specs.declared.view.IgmpView.IgmpView}
 use Rattle.pim_model.{specs.{declared.accepted.Accepted.Accepted, Cause.{done_as, if_done, packet_in}, Judging.{Judged, advance_judged, assert_judged, data_judged, down_judged, frame_judged, hello_judged, igmp_accepted, igmp_judged, igmp_message_judged, ignore_if, join_prune_judged, judged, last_moment, of_read, packet_judged, pim_judged, pim_message_judged, pim_to_me_judged, refuse_if, register_judged, register_stop_judged, routes_judged, rps_judged, unicast_judged, unicast_packet_judged, up_judged, ◌>>◌}, Limits.{are_routes, are_rps}, State.{State, iface_count, is_up}, Step.step}}
-use Rattle.law_streams.{specs.Brought.{BringsPacket, InRegister, OnLink, PacketIsBrought}}
+use Rattle.law_streams.{specs.Brought.{BringsPacket, InRegister, OnLink, PacketComesFromEvent}}
 
 -- the packet of what was judged
 abbrev packet_of : Judged → Option Packet
@@ -130,6 +130,6 @@ judged_so : (answer : Result Verdict Refusal) (j : Judged) (p : Packet) → pack
     → packet_of j ≡ Some p
 judged_so answer j p e = grind arith
 
-pub packet_is_brought : PacketIsBrought
+pub packet_comes_from_event : PacketComesFromEvent
 unfolding done_as
-packet_is_brought s e p was = kind_brings s p e.kind e refl (judged_so (step s e).answer (judged s e.kind) p was)
+packet_comes_from_event s e p was = kind_brings s p e.kind e refl (judged_so (step s e).answer (judged s e.kind) p was)

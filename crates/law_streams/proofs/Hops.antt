@@ -5,7 +5,7 @@ use Rattle.pim_types.{specs.declared.{outcome.Emission.Emission, event.Event.Eve
 use Rattle.pim_wire.{specs.{Encoded.{pim_type_of, pim_version_of}, Asserts.{assert_of, assert_test}, Hellos.{hello_of, hello_test}, JoinPrunes.{join_prune_of, join_prune_test}, Messages.{body_reading, is_checksum_right, is_register, pim_reading}, Registers.{inner_of, inner_test, is_null_register, register_of, register_stop_of, register_stop_test, register_test, register_text, source_and_group_test}, Values.{Encapsulated, Null, Register as RegisterValue}, declared.view.PimView.TheVariants.{Assert, Hello, JoinPrune, Other, Register, RegisterStop}}}
 use Rattle.pim_model.{specs.{declared.accepted.Accepted.Accepted, Cause.{done_as, packet_in}, Forwarding.{Forwarded, forwarded, register_received}, State.State, Step.change, Writing.{leaves, on_link, pim_to}}}
 use Rattle.law_settled.{proofs.{ListLaws.each_map, ReadPackets.{packet_is, passed}}}
-use Rattle.law_streams.{specs.{Brought.{BringsPacket, InRegister, OnLink}, Copies.happens, Hops.{AsACopy, Comes, GoesOn, Hop, HopsEnd, InTheTunnel, OnALink, ToARouter}}, proofs.{Brought.packet_is_brought, Links.{each_contained, on_each}, Made.{IsOf, IsRegister, registers_of, step_made}, Read.read_is}}
+use Rattle.law_streams.{specs.{Brought.{BringsPacket, InRegister, OnLink}, Copies.happens, Hops.{AsACopy, Comes, GoesOn, Hop, HopsEnd, InTheTunnel, OnALink, ToARouter}}, proofs.{Brought.packet_comes_from_event, Links.{each_contained, on_each}, Made.{IsOf, IsRegister, registers_of, step_made}, Read.read_is}}
 
 -- ---- what is read
 
@@ -214,6 +214,6 @@ hops_end x y (z ∷ zs) first later =
     let next : Hop y z = later.0 in
     one_more (length (z ∷ zs)) first.packet.time_to_live next.packet.time_to_live sent.lives
     (falls first.packet next.packet y next.event
-    (brought_header first.event first.packet (packet_is_brought first.state first.event first.packet first.brought))
-    sent.form next.comes (packet_is_brought next.state next.event next.packet next.brought))
+    (brought_header first.event first.packet (packet_comes_from_event first.state first.event first.packet first.brought))
+    sent.form next.comes (packet_comes_from_event next.state next.event next.packet next.brought))
     (hops_end y z zs next later.1)

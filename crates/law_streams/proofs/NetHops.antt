@@ -3,7 +3,7 @@ use Rattle.std.{proofs.{Common.{◌≡◌, ◌∙◌, ℕ, ◌<◌, ◌≤◌, �
 use Rattle.pim_types.{specs.declared.{config.IfaceId.IfaceId, event.{Event.Event, EventKind.EventKind}, outcome.Emission.Emission}}
 use Rattle.pim_model.{specs.{declared.accepted.Accepted.Accepted, Step.change, Network.{At, Deliver, DeliverUnicast, Move, Network, Sent as SentFrame, Station, event_of, frame_at, frame_event, is_on_frame_link, sent_by, station_at}, State.{State, iface_count}, Writing.{on_link, pim_to}}}
 use Rattle.law_settled.{proofs.ListLaws.each_map}
-use Rattle.law_streams.{specs.{Copies.copies_at, Hops.{AsACopy, Comes, GoesOn, InTheTunnel, OnALink, ToARouter}, NetHops.{Delivers, NetHop, NetHopsEnd}}, proofs.{Brought.packet_is_brought, Hops.{Sent, brought_header, falls, one_more, round, sent_as}, Links.{each_contained, on_each}, Made.{IsRegister, step_made}}}
+use Rattle.law_streams.{specs.{Copies.copies_at, Hops.{AsACopy, Comes, GoesOn, InTheTunnel, OnALink, ToARouter}, NetHops.{Delivers, NetHop, NetHopsEnd}}, proofs.{Brought.packet_comes_from_event, Hops.{Sent, brought_header, falls, one_more, round, sent_as}, Links.{each_contained, on_each}, Made.{IsRegister, step_made}}}
 
 -- ---- what a delivery is
 
@@ -122,7 +122,7 @@ net_hops_end f g (h ∷ hs) first later =
     let next : NetHop g h = later.0 in
     one_more (length (h ∷ hs)) first.packet.time_to_live next.packet.time_to_live sent.lives
     (falls first.packet next.packet first.out next.event
-    (brought_header first.event first.packet (packet_is_brought first.station.state first.event first.packet first.brought))
+    (brought_header first.event first.packet (packet_comes_from_event first.station.state first.event first.packet first.brought))
     sent.form (next_comes f g h first next)
-    (packet_is_brought next.station.state next.event next.packet next.brought))
+    (packet_comes_from_event next.station.state next.event next.packet next.brought))
     (net_hops_end g h hs next later.1)

@@ -3,7 +3,7 @@ use Rattle.std.{proofs.Common.{◌≡◌, ◌∙◌, ℕ, suc, ◌+◌, ◌<◌,
 use Rattle.pim_ip.{specs.Ipv4.{copy_text, is_link_local, is_multicast}}
 use Rattle.pim_types.{specs.declared.event.Event.Event}
 use Rattle.pim_model.{specs.{Network.{Move, Network, network_ran, station_at}, Writing.on_link}}
-use Rattle.law_streams.{specs.{Networks.events_in, Flows.{IsCarried, IsFlowed, IsLater, top_link}, Ways.{AreApart, IsNotAmong, Place, StandIn, state_of, up_iface}, Passing.{Passes, Receiver, Tree}, Streams.{IsStreamed, MemberBeginsStream, NoneEndsStream, PassesAt, StreamIsServed, later_place}}, proofs.{Networks.runs_alone, Forwards.from_copies, Carries.{IsPassedOn, delivery, flow, is_judged, is_passed_on, lives_on, of_packet}, Passing.run_keeps_passing, Room.has_room, Serving.passing_serves}}
+use Rattle.law_streams.{specs.{Networks.events_in, Flows.{IsCarried, IsFlowed, IsLaterFrame, top_link}, Ways.{AreApart, IsNotAmong, Place, StandIn, state_of, up_iface}, Passing.{Passes, Receiver, Tree}, Streams.{IsStreamed, MemberBeginsStream, NoneEndsStream, PassesAt, StreamIsServed, later_place}}, proofs.{Networks.runs_alone, Forwards.from_copies, Carries.{IsPassedOn, delivery, flow, is_judged, is_passed_on, lives_on, of_packet}, Passing.run_keeps_passing, Room.has_room, Serving.passing_serves}}
 
 module _ (g src : ℕ) (payload : List ℕ) (group : is_multicast g ≡ true) (far : is_link_local g ≡ false) where
   passes : (n : Network) (link lives : ℕ) (tree : Tree) (by : Receiver) (p : Place) → 0 < lives
@@ -69,7 +69,7 @@ module _ (n : Network) (ms : List Move) where
   same_length [] = refl
   same_length (p ∷ ps) = ap suc (same_length ps)
 
-  same_later : (x : Network) (number : ℕ) (ps : List Place) → IsLater x number (map (later_place n ms) ps) → IsLater x number ps
+  same_later : (x : Network) (number : ℕ) (ps : List Place) → IsLaterFrame x number (map (later_place n ms) ps) → IsLaterFrame x number ps
   same_later x number ps f = grind arith
 
   pub flowed_so : (x : Network) (g src link : ℕ) (payload : List ℕ) (lives : ℕ) (ps : List Place)

@@ -13,5 +13,5 @@ pub data BringsPacket (e : Event) (p : Packet) : Type 0 where
       → pim_reading outer.payload ≡ Ok (PimView.Register (Encapsulated p)) → BringsPacket e p
 
 -- The packet is the one that the event's bytes are read as, or the one inside the Register that they are read as.
-abbrev pub PacketIsBrought : Type 0
-PacketIsBrought = (s : State) (e : Event) (p : Packet) → packet_in (done_as (happens s e)) ≡ Some p → BringsPacket e p
+abbrev pub PacketComesFromEvent : Type 0
+PacketComesFromEvent = (s : State) (e : Event) (p : Packet) → packet_in (done_as (happens s e)) ≡ Some p → BringsPacket e p

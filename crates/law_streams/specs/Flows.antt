@@ -43,9 +43,9 @@ top_link link [] = link
 top_link link (p ∷ ps) = top_link p.next_link ps
 
 -- A frame is a new one where a way has any router: none of the frames that were sent before.
-abbrev pub IsLater : Network → ℕ → List Place → Type 0
-IsLater n number [] = Unit {0}
-IsLater n number (p ∷ ps) = length n.frames < number
+abbrev pub IsLaterFrame : Network → ℕ → List Place → Type 0
+IsLaterFrame n number [] = Unit {0}
+IsLaterFrame n number (p ∷ ps) = length n.frames < number
 
 -- Deliveries, one for each router, after which the packet is on the lower link, with a TTL lower by one for each
 -- router.
@@ -54,7 +54,7 @@ pub record IsFlowed (n : Network) (g src link : ℕ) (payload : List ℕ) (lives
   pub deliveries : AreDeliveries moves
   pub one_each : length moves ≡ length ps
   pub arrived : IsCarried (network_ran n moves).1 g src link payload lives
-  pub new : IsLater n (arrived.on_link).number ps
+  pub new : IsLaterFrame n (arrived.on_link).number ps
   pub grows : length n.frames ≤ length ((network_ran n moves).1).frames
   pub others : (r : ℕ) → IsNotAmong r ps → station_at (network_ran n moves).1 r ≡ station_at n r
 

@@ -4,7 +4,7 @@
 ghost use Rattle.law_streams.specs.Addresses.{NoneIsAccepted, OthersAreOfInterfaces, OwnIsOffLink};
 ghost use Rattle.law_streams.specs.Answers.{AnswersAreBounded, AssertGivesOne, DataGivesCopiesOrAssert, HelloAgainIsSilent, OneSourceFollows, OthersGiveNone, RecordAsksFew, RegisterGivesCopiesAndStop, SeenIsSilent};
 ghost use Rattle.law_streams.specs.Bounded.{AddsWhatIsNeeded, AssertsStayBounded, CountedStayBounded, NothingNewAddsNone, RunStaysWithin, StepStaysWithin, TimeAddsNone};
-ghost use Rattle.law_streams.specs.Brought.{PacketIsBrought};
+ghost use Rattle.law_streams.specs.Brought.{PacketComesFromEvent};
 ghost use Rattle.law_streams.specs.Copies.{CopiesReadLower, NeverBack, NeverTwice, TtlFalls};
 ghost use Rattle.law_streams.specs.Data.{EachEmissionIsOfAKind, OnlyCopiesAreData};
 ghost use Rattle.law_streams.specs.Hops.{HopsEnd};
@@ -30,8 +30,8 @@ pub fn ttl_falls()
 {}
 
 /// The packet is the one that the event's bytes are read as, or the one inside the Register that they are read as.
-pub fn packet_is_brought()
-    ensures { PacketIsBrought }
+pub fn packet_comes_from_event()
+    ensures { PacketComesFromEvent }
 {}
 
 /// A copy of a packet that was read is read as that packet with the TTL one lower.

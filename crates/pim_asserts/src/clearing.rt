@@ -13,7 +13,7 @@ ghost use Rattle.pim_asserts.specs.Opened.{clear_asserts, clear_bit, clear_bits,
 ghost use Rattle.pim_asserts.specs.Passes.{group_pass, source_pass};
 
 use crate::going::{first_of_source, first_of_star};
-use crate::part::{Part, clear_part};
+use crate::part::{Part, clear_unneeded_asserts};
 use pim_macros::{SourceSight, StarSight};
 use pim_state::{Meter, Turn, World};
 use pim_types::fact::SourceRow;
@@ -49,7 +49,7 @@ fn clear_star(
         source: None,
         was: opened.star.iface,
     };
-    clear_part(world, turn, meter, part)
+    clear_unneeded_asserts(world, turn, meter, part)
 }
 
 // The asserts of a source.
@@ -69,7 +69,7 @@ fn clear_source(
         source: Some(opened.source),
         was: opened.view.iface,
     };
-    clear_part(world, turn, meter, part)
+    clear_unneeded_asserts(world, turn, meter, part)
 }
 
 // Clears SPTbit(S,G), which is set; the source's row is kept while its keepalive timer runs.

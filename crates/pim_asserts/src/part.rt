@@ -6,7 +6,7 @@ ghost use Rattle.pim_model.specs.Sets.{is_winner};
 ghost use Rattle.pim_model.specs.Tables.{row_at};
 ghost use Rattle.pim_macros.specs.Rows.{number_of};
 ghost use Rattle.pim_asserts.specs.Going.{clear_once, first_below, goes_at, part_key, source_bits};
-ghost use Rattle.pim_asserts.specs.Opened.{clear_part, part_to_clear};
+ghost use Rattle.pim_asserts.specs.Opened.{clear_unneeded_asserts, part_to_clear};
 
 use crate::going::{first_of_source, first_of_star};
 use pim_macros::asserts::infinite;
@@ -96,16 +96,16 @@ fn clear_next(
 }
 
 /// Clears what must go of these asserts, in the order of interfaces; all macros are evaluated anew after each.
-pub(crate) fn clear_part(
+pub(crate) fn clear_unneeded_asserts(
     world: &mut World,
     turn: &mut Turn,
     meter: &mut Meter,
     part: Part,
 ) -> Result<(), AllocError>
     ensures state { OnOk result (world.new
-        ≡ (clear_part part.was part.group.bits (source_bits part.source) world.old).0) }
+        ≡ (clear_unneeded_asserts part.was part.group.bits (source_bits part.source) world.old).0) }
     ensures messages { OnOk result (turn.new ≡ saying turn.old
-        (clear_part part.was part.group.bits (source_bits part.source) world.old).1) }
+        (clear_unneeded_asserts part.was part.group.bits (source_bits part.source) world.old).1) }
 {
     while clear_next(world, turn, meter, part)? {}
     Ok(())

@@ -14,7 +14,7 @@ use Rattle.igmp_older_saved.{specs.{Reading.{held_reading, held_restore_test}, R
 use Rattle.pim_router.{specs.{Asked.LeadsOn, Standing.{Standing, begun, nothing_shown, standing, with_state}}}
 use Rattle.pim_guard.{specs.Guard.is_stopped}
 use Rattle.pim_anycast.{specs.{Sets.are_rp_sets, declared.set.RpSet.RpSet}}
-use Rattle.pim_session.{specs.{Front.{Front, hosts_set, interface_test, older_rows, version_set}, Leaving.{GoesOnFrom, LeftIsAsked}, Saved.{front_resumed, held_of}, Session.ShownSession, Shared.{event_in, front_in, is_sure_in, leaving, left_in, seen_in, seen_leaving}, Untaken.{IsStill, has_untaken}}}
+use Rattle.pim_session.{specs.{Front.{Front, hosts_set, interface_test, older_rows, version_set}, Leaving.{GoesOnFrom, LeftIsAsked}, Saved.{front_resumed, saved_parts}, Session.ShownSession, Shared.{event_in, front_in, is_sure_in, leaving, left_in, seen_in, seen_leaving}, Untaken.{IsStill, has_untaken}}}
 use Rattle.igmp_older.{specs.declared.{mode.OlderRow.OlderRow, setting.{OlderHosts.OlderHosts, QueryVersion.QueryVersion}}}
 use Rattle.pim_types.{specs.declared.{config.Config.Config, event.Event.Event, fact.Key.Key, outcome.Emission.Emission}}
 use Rattle.pim_c.{specs.{Returned.{answer_number, bytes_in, kept_number, name_of, no_interface_number, older_group_of, set_number, c_packet, written_into}, declared.returned.{Forwarding.Forwarding, Interfaces.Interfaces, NamedSource.NamedSource, OlderGroup.OlderGroup, Packet.Packet, PlaneRow.PlaneRow}}}
@@ -378,7 +378,7 @@ Wrote h written room filled =
 abbrev pub SavedFrom : Option Standing → Option Front → ℕ → ℕ → ℕ → List ℕ → List ℕ → Type 0
 SavedFrom None front answer size written room filled = (answer ≡ 41) × (written ≡ size) × (filled ≡ room)
 SavedFrom (Some r) front answer size written room filled =
-    ((answer ≡ 0) × Wrote (held_of r.state front) written room filled) ⊎ ((answer ≡ 40) × (written ≡ size) × (filled ≡ room))
+    ((answer ≡ 0) × Wrote (saved_parts r.state front) written room filled) ⊎ ((answer ≡ 40) × (written ≡ size) × (filled ≡ room))
 
 -- The text of the router's state with its rows of older hosts was written, as much as fits, with its length, or an
 -- allocation failed.

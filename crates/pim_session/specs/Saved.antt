@@ -11,8 +11,8 @@ hosts_of s None = []
 hosts_of s (Some f) = saved_hosts s.group_records s.present (f.present).rows
 
 -- what is saved: the router's state, and the rows of older hosts
-abbrev pub held_of : State → Option Front → Held
-held_of s front = record { hosts = hosts_of s front; state = s }
+abbrev pub saved_parts : State → Option Front → Held
+saved_parts s front = record { hosts = hosts_of s front; state = s }
 
 -- What stands before a router that was saved with these rows of older hosts: nothing where there are none; else they are
 -- known, and nothing is set.

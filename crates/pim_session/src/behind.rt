@@ -12,7 +12,7 @@ ghost use Rattle.pim_session.specs.Front.{both, emissions_leaving, event_queried
 
 use crate::asked::Asked;
 use crate::front::Front;
-use igmp_older::{Given, OlderRow, ResponseTimes, give_query};
+use igmp_older::{Given, OlderRow, ResponseTimes, translate_query};
 use pim_intake::LentEvent;
 use pim_intake::lent::LentKind;
 use pim_router::Router;
@@ -101,7 +101,7 @@ fn take_frame(
         return take_packet(alloc, router, front, draw, iface, bytes, sent);
     }
     let mut query = Vec::new(alloc);
-    if give_query(alloc, bytes, &mut query)? {
+    if translate_query(alloc, bytes, &mut query)? {
         return take_packet(alloc, router, front, draw, iface, query.as_slice(), sent);
     }
     take_packet(alloc, router, front, draw, iface, bytes, sent)

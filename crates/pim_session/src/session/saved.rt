@@ -4,7 +4,7 @@ ghost use Rattle.igmp_older_saved.specs.Text.{Held, held_text, FitsHeld};
 ghost use Rattle.pim_ip.specs.declared.fault.Fault.{Fault};
 ghost use Rattle.pim_router.specs.Standing.{begun};
 ghost use Rattle.pim_session.specs.Leaving.{GoesOnFrom};
-ghost use Rattle.pim_session.specs.Saved.{front_resumed, held_of};
+ghost use Rattle.pim_session.specs.Saved.{front_resumed, saved_parts};
 ghost use Rattle.pim_worlds.specs.Resuming.{IsResumable};
 ghost use Rattle.std.specs.Prelude.{◌≡◌, ◌++◌, ◌↔◌, [], Err, IfErr, IfOk, IfSome, IsOkUnless, None, Ok, OnErr, OnOk, true};
 
@@ -39,8 +39,8 @@ impl Session {
     /// nor are the sets of RPs, and the packets and the rows that are kept. After a fault the bytes are as they were.
     pub fn save(&self, out: &mut Vec<u8>) -> Result<(), Fault>
         ensures saved { IfSome self.now.router.standing (λ r. OnOk result
-            (out.new.items ≡ out.old.items ++ held_text (held_of r.state self.now.front))) }
-        ensures fitting { IfSome self.now.router.standing (λ r. OnOk result (FitsHeld (held_of r.state self.now.front))) }
+            (out.new.items ≡ out.old.items ++ held_text (saved_parts r.state self.now.front))) }
+        ensures fitting { IfSome self.now.router.standing (λ r. OnOk result (FitsHeld (saved_parts r.state self.now.front))) }
         ensures resumable { IfSome self.now.router.standing (λ r. IsResumable r.state) }
         ensures silent { OnErr result (out.new.items ≡ out.old.items) }
         ensures failed { (result ≡ Err Fault.Failed) ↔ (self.now.router.standing ≡ None) }

@@ -2,7 +2,7 @@
 ghost use Rattle.std.specs.Prelude.{◌≡◌};
 
 use igmp_older::{
-    Given, Mode, OlderHosts, Presence, Querier, ResponseTimes, cut_query, give_query,
+    Given, Mode, OlderHosts, Presence, Querier, ResponseTimes, cut_query, translate_query,
     note_answered, translate,
 };
 use pim_ip::{Addr, Refusal};
@@ -223,7 +223,7 @@ fn nobody_is_heard_without_a_setting(rt: HostRuntime) -> Result<(), Fail> {
 fn a_query_changes_its_version(rt: HostRuntime) -> Result<(), Fail> {
     let alloc = rt.alloc();
     let mut given = Vec::new(alloc);
-    answers(&rt, give_query(alloc, QUERY_TWO, &mut given)?);
+    answers(&rt, translate_query(alloc, QUERY_TWO, &mut given)?);
     has_written(&rt, &given, QUERY_THREE);
     let mut cut = Vec::new(alloc);
     answers(&rt, cut_query(alloc, TIMES, &given, &mut cut)?);

@@ -1,6 +1,6 @@
 use Rattle.std.{proofs.Common.{◌≡◌, ◌++◌, filter, map}}
 use Rattle.igmp_older_saved.{specs.Hosts.{entry_told, is_held, saved_hosts}}
-use Rattle.igmp_older_saved.proofs.hosts.held_of.Given as goal
+use Rattle.igmp_older_saved.proofs.hosts.rows_to_save.Given as goal
 
 abbrev pub invariant-loop-key : goal.invariant-loop-key
 invariant-loop-key g l =

@@ -1,8 +1,8 @@
 use Rattle.std.{proofs.Common.{List, ap, refl, subst, sym, ◌<◌, ◌∙◌}}
 use Rattle.pim_model.{specs.{Clearing.clearable_count, Messages.Message, State.State}}
 use Rattle.pim_state.{specs.Turns.saying, proofs.Said.said_nothing}
-use Rattle.pim_asserts.{specs.{Going.{clear_once, source_bits}, Opened.clear_part}, proofs.{Fuel.{cleared_by_turn, in_turn, no_turn, nothing_once, turn_is_fewer}, Progress.{stands_last, stands_next}}}
-use Rattle.pim_asserts.proofs.part.clear_part.Goals as goal
+use Rattle.pim_asserts.{specs.{Going.{clear_once, source_bits}, Opened.clear_unneeded_asserts}, proofs.{Fuel.{cleared_by_turn, in_turn, no_turn, nothing_once, turn_is_fewer}, Progress.{stands_last, stands_next}}}
+use Rattle.pim_asserts.proofs.part.clear_unneeded_asserts.Goals as goal
 
 pub loop-init : goal.loop-init
 loop-init c = record { state = refl; taking = refl }
@@ -22,10 +22,10 @@ loop-preserved c =
     let source = source_bits c.args.part.source in
     let s = c.loop.world in
     let more = sym c.in_ok-clear_next.ensures.more ∙ c.if-branch.true in
-    stands_next (clear_once was g source s) (clear_part was g source c.clear_next.new.world)
-    (clear_part was g source s) (clear_part was g source c.args.world.now) c.loop.turn c.clear_next.new.turn c.args.turn.now
+    stands_next (clear_once was g source s) (clear_unneeded_asserts was g source c.clear_next.new.world)
+    (clear_unneeded_asserts was g source s) (clear_unneeded_asserts was g source c.args.world.now) c.loop.turn c.clear_next.new.turn c.args.turn.now
     (cleared_by_turn was g source s more
-    ∙ ap (λ (u : State). in_turn was g source (clear_once was g source s) (clear_part was g source u))
+    ∙ ap (λ (u : State). in_turn was g source (clear_once was g source s) (clear_unneeded_asserts was g source u))
     (sym c.in_ok-clear_next.ensures.state))
     c.in_ok-clear_next.ensures.messages c.loop.invariant
 
@@ -38,7 +38,7 @@ returns-clause-state c =
     let none = sym c.in_ok-clear_next.ensures.more ∙ c.if-branch.false in
     c.in_ok-clear_next.ensures.state
     ∙ ap (λ (p : State × List Message). p.0) (nothing_once was g source s none)
-    ∙ (stands_last s (clear_part was g source s) (clear_part was g source c.args.world.now) c.loop.turn c.args.turn.now
+    ∙ (stands_last s (clear_unneeded_asserts was g source s) (clear_unneeded_asserts was g source c.args.world.now) c.loop.turn c.args.turn.now
     (no_turn was g source s none) c.loop.invariant).0
 
 pub returns-clause-messages : goal.returns-clause-messages
@@ -51,5 +51,5 @@ returns-clause-messages c =
     c.in_ok-clear_next.ensures.messages
     ∙ ap (λ (p : State × List Message). saying c.loop.turn p.1) (nothing_once was g source s none)
     ∙ said_nothing c.loop.turn
-    ∙ (stands_last s (clear_part was g source s) (clear_part was g source c.args.world.now) c.loop.turn c.args.turn.now
+    ∙ (stands_last s (clear_unneeded_asserts was g source s) (clear_unneeded_asserts was g source c.args.world.now) c.loop.turn c.args.turn.now
     (no_turn was g source s none) c.loop.invariant).1
