@@ -42,6 +42,7 @@ ghost use Rattle.std.specs.Option.{option_map_or};
 ghost use Rattle.std.specs.Prelude.{◌≡◌, ◌*◌, ◌+◌, ◌<◌, ◌≤◌, ◌++◌, ◌↔◌, [], Err, IfErr, IfOk, IfSome, IsOk, IsOkUnless, IsTrue, List, None, Ok, OnErr, OnOk, Some, length, min, option_and_then, true};
 ghost use Rattle.std.specs.Vec.{vec_capacity, vec_len};
 
+mod bootstraps;
 mod hosts;
 mod places;
 mod reload;

@@ -1,6 +1,6 @@
 //! What a front for hosts and routers of older versions of IGMP asks of the router.
 ghost use Rattle.std.specs.Option.{option_map_or};
-ghost use Rattle.std.specs.Prelude.{◌≡◌, ◌+◌, false, option_and_then};
+ghost use Rattle.std.specs.Prelude.{◌≡◌, ◌+◌, ◌^◌, ◌≤◌, false, option_and_then};
 ghost use Rattle.pim_model.specs.Querier.{group_membership_interval};
 ghost use Rattle.pim_model.specs.State.{iface_count};
 ghost use Rattle.pim_model.specs.Tables.{has_row, row_at};
@@ -56,7 +56,8 @@ impl Router {
 
     /// The present moment, in ms; 0 where the router has failed. No memory is taken.
     pub fn present_moment(&self) -> u64
-        ensures { result ≡ option_map_or (λ r. r.state.present) self.now.standing 0 }
+        ensures moment { result ≡ option_map_or (λ r. r.state.present) self.now.standing 0 }
+        ensures within { result ≤ 2 ^ 62 }
     {
         if self.failed {
             return 0;
