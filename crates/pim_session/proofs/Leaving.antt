@@ -7,7 +7,7 @@ use Rattle.igmp_older_saved.{specs.{Reading.held_reading, Text.Held}, proofs.Spe
 use Rattle.law_states.{specs.History.{Given, IsLedTo}}
 use Rattle.pim_router.{specs.{Asked.{LeadsOn, SentIsAsked}, Standing.{Shown, Standing, beginning, begun, standing}}, proofs.Asked.{leads_now, step_asked, step_leads}}
 use Rattle.pim_anycast.{specs.declared.set.RpSet.RpSet}
-use Rattle.pim_session.{specs.{Front.Front, Leaving.{GoesOnFrom, LeftIsAsked}, Session.ShownSession, Shared.{Reached, Saw, event_in, leaving, left_in, seen_in}}}
+use Rattle.pim_session.{specs.{Front.Front, Leaving.{GoesOnFrom, LeftIsAsked}, Session.ShownSession, Shared.{Reached, Saw, event_in, leaving, left_in, seen_in, seen_leaving}}}
 
 -- a session that keeps what left of an event shows what its router shows
 pub kept_by : (e : Event) (answer : Result Verdict Refusal) (now kept : ShownSession) (before after : Shown) (leaving : List Emission)
@@ -83,6 +83,15 @@ asked_of x e g src (Some r) answer shown leaving told =
       is = told.sent;
       asked = step_asked r.state e answer (step r.state e).emissions told.is_answer refl;
     })
+
+-- what leaves of that event
+pub sent_of : (x : ShownSession) (e : Event) (g src : ℕ) (was : Option Standing) (answer : Result Verdict Refusal) (shown : Shown)
+    (left : List Emission)
+    → IfSome was (λ r. Saw x.sets r.state e g src answer shown left)
+    → IfSome was (λ r. left ≡ seen_leaving x r.state e g src)
+unfolding seen_in
+sent_of x e g src None answer shown left told = tt
+sent_of x e g src (Some r) answer shown left told = told.sent
 
 pub led_of : (x : ShownSession) (e : Event) (g src : ℕ) (was : Option Standing) (answer : Result Verdict Refusal) (shown : Shown)
     (leaving : List Emission)

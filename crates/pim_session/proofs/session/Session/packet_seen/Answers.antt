@@ -1,6 +1,6 @@
 use Rattle.std.proofs.Common.{◌∙◌, IfSome, ap}
 use Rattle.law_plane.{specs.Seen.seen_event}
-use Rattle.pim_session.{proofs.Leaving.{asked_of, kept_of, led_of}, specs.{Session.ShownSession, Shared.Saw}}
+use Rattle.pim_session.{proofs.Leaving.{asked_of, kept_of, led_of, sent_of}, specs.{Session.ShownSession, Shared.Saw}}
 use Rattle.pim_session.proofs.session.Session.packet_seen.Goals as goal
 
 saw : (c : goal.After-keep_sent) → IfSome c.args.self.now.router.standing (λ r. Saw c.args.self.now.sets r.state
@@ -22,4 +22,9 @@ returns-in-Ok-clause-asked c =
 pub returns-in-Ok-clause-led : goal.returns-in-Ok-clause-led
 returns-in-Ok-clause-led c =
     led_of c.args.self.now (seen_event c.args.draw c.args.iface c.args.group.bits c.args.source.bits) c.args.group.bits
+    c.args.source.bits c.args.self.now.router.standing c.in-Ok.answer c.keep_sent.new.self.router c.keep_sent.new.self.sent (saw c)
+
+pub returns-in-Ok-clause-sent : goal.returns-in-Ok-clause-sent
+returns-in-Ok-clause-sent c =
+    sent_of c.args.self.now (seen_event c.args.draw c.args.iface c.args.group.bits c.args.source.bits) c.args.group.bits
     c.args.source.bits c.args.self.now.router.standing c.in-Ok.answer c.keep_sent.new.self.router c.keep_sent.new.self.sent (saw c)
