@@ -1,5 +1,5 @@
 pub mod Fronts
 pub mod Opening
-pub mod Shared
+pub mod Sharing
 pub mod Stops
 pub mod Told

@@ -37,7 +37,7 @@ pub(crate) enum Watch {
 
 impl Watch {
     // What is watched of a packet that came on a link.
-    #[tactic(auto, using(crate::proofs::Shared::packet_watch, crate::proofs::Shared::no_packet, crate::proofs::Shared::asked_before))]
+    #[tactic(auto, using(crate::proofs::Sharing::packet_watch, crate::proofs::Sharing::no_packet, crate::proofs::Sharing::asked_before))]
     fn of_packet(anycast: &Anycast, router: &Router, iface: IfaceId, bytes: &[u8]) -> Watch
         ensures { (s : State) → Stands router.now.standing s
             → IsWatchOf anycast.now s (Kind.Frame iface bytes.now) result }
@@ -56,7 +56,7 @@ impl Watch {
     }
 
     // The Null-Registers that leave after what the router sent, when this router has answered.
-    #[tactic(auto, using(crate::proofs::Shared::asked_new, crate::proofs::Shared::asked_due))]
+    #[tactic(auto, using(crate::proofs::Sharing::asked_new, crate::proofs::Sharing::asked_due))]
     fn announce(
         self,
         alloc: Global,
@@ -100,7 +100,7 @@ impl Shared {
 }
 
 // A packet that came by unicast.
-#[tactic(auto, using(crate::proofs::Shared::asked_passed, crate::proofs::Shared::unicast_given, crate::proofs::Shared::unicast_before))]
+#[tactic(auto, using(crate::proofs::Sharing::asked_passed, crate::proofs::Sharing::unicast_given, crate::proofs::Sharing::unicast_before))]
 fn share_unicast(
     alloc: Global,
     anycast: &Anycast,
@@ -135,7 +135,7 @@ fn share_unicast(
 }
 
 // An event as the next front is given it.
-#[tactic(auto, using(crate::proofs::Shared::asked_present), unfolding(pim_anycast::specs::Joined::event_given, pim_anycast::specs::Joined::kind_given))]
+#[tactic(auto, using(crate::proofs::Sharing::asked_present), unfolding(pim_anycast::specs::Joined::event_given, pim_anycast::specs::Joined::kind_given))]
 fn share(
     alloc: Global,
     anycast: &Anycast,
@@ -266,7 +266,7 @@ fn next_stop(anycast: &Anycast, present: u64, moment: u64) -> Option<u64>
 }
 
 // The timestamps, in ms, at which announcements are due on the way from one to another.
-#[tactic(auto, using(crate::proofs::Stops::one_stop, crate::proofs::Stops::no_stop, crate::proofs::Stops::no_more_stops), unfolding(crate::specs::Stops::stops_on))]
+#[tactic(auto, unfolding(crate::specs::Stops::stops_on))]
 fn stops_on_the_way(
     alloc: Global,
     anycast: &Anycast,

@@ -3,11 +3,11 @@ use Rattle.std.{proofs.Common.{◌≡◌, ◌∙◌, ◌++◌, ◌<◌, ℕ, suc
 use Rattle.pim_ip.{specs.{Ipv4.{Packet, ipv4_reading}, declared.refusal.Refusal.Refusal}}
 use Rattle.pim_types.{specs.declared.{config.IfaceId.IfaceId, event.{Event.Event, EventKind.EventKind}, fact.Key.Key, name.SourceGroup.SourceGroup, outcome.{Emission.Emission, Outcome.Outcome}}}
 use Rattle.pim_model.{specs.{Network.{Network, Station, moved_at, sent_by, station_at, stepped}, State.State, Step.step}}
-use Rattle.pim_net.{specs.Showing.{Standing, with_sent_at}}
+use Rattle.pim_net.{specs.Showing.{Standing, shown_state, with_sent_at}}
 use Rattle.igmp_older.{specs.{Joined.{Both, joined_step}, Presence.Present}}
 use Rattle.pim_anycast.{specs.{Announced.{announced_due, announced_new, is_announced, is_local, local_keys}, Joined.{event_given, kind_given, sent_after, sent_before}, Passed.{bytes_given, copies_of, passed}, declared.{front.Passed.Passed, set.RpSet.RpSet}}}
 use Rattle.igmp_older.specs.Joined as older
-use Rattle.pim_lab.{specs.{Fronts.{Stands, behind}, Shared.{IsWatchOf, beside, came_behind, shared_network, shared_outcome, watched}, declared.shared.Watch.Watch}, proofs.Fronts.{asked_of, moved_at_is, station_after}}
+use Rattle.pim_lab.{specs.{Fronts.{Stands, behind}, Shared.{IsWatchOf, beside, came_behind, shared_network, shared_outcome, watched}, declared.shared.Watch.Watch}, proofs.Fronts.{asked_of, moved_at_is, shown, station_after}}
 
 -- ---- what is asked of a router
 
@@ -94,9 +94,28 @@ module _ (n : Network) (r : ℕ) (st : Station) (here : station_at n r ≡ Some 
   pub copied_here : station_at copied r ≡ Some st
   copied_here = station_kept n r (sent_before sets st.state e.kind) r ∙ here
 
-  pub after_here : station_at (moved_at copied (r, given)).1 r
-      ≡ Some (record st { state = ((came_behind sets (behind p st.state) e).1).state })
+  -- the router's state after it
+  abbrev pub left : State
+  left = ((came_behind sets (behind p st.state) e).1).state
+
+  after_here : station_at (moved_at copied (r, given)).1 r ≡ Some (record st { state = left })
   unfolding joined_step
   after_here =
       ap (λ (m : Outcome × Network). station_at m.1 r) (moved_at_is copied r st copied_here given)
       ∙ station_after copied r st copied_here given
+
+  pub shown_after : (o : Option Network) → o ≡ Some (moved_at copied (r, given)).1 → shown_state o r ≡ Some left
+  shown_after o is = shown o (moved_at copied (r, given)).1 r (record st { state = left }) is after_here
+
+  -- with what the first front sends
+  pub outcome_is : (copies after : List Emission) (o : Outcome) → copies ≡ sent_before sets st.state e.kind
+      → o ≡ (came_behind sets (behind p st.state) e).0 → after ≡ sent_after sets st.state left e.kind
+      → beside copies o after ≡ shared_outcome sets (behind p st.state) e
+  unfolding shared_outcome
+  outcome_is copies after o before came last = rw (before, came, last) refl
+
+  pub network_is : (o : Option Network) (after : List Emission) → o ≡ Some (with_sent_at (moved_at copied (r, given)).1 r after)
+      → after ≡ sent_after sets st.state left e.kind → o ≡ Some (shared_network n r sets (behind p st.state) e)
+  unfolding shared_network
+  network_is o after is last =
+      is ∙ ap (λ (es : List Emission). Some (with_sent_at (moved_at copied (r, given)).1 r es)) last
