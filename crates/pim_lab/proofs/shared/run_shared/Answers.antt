@@ -1,6 +1,6 @@
 -- One event of the network behind both fronts: the copies leave, the router answers, and then the Null-Registers leave.
-use Rattle.std.{proofs.Common.{◌≡◌, ◌∙◌, List, ◌∷◌, [], Some, ap, sym}}
-use Rattle.pim_types.{specs.declared.{event.Event.Event, outcome.{Emission.Emission, Outcome.Outcome}}}
+use Rattle.std.{proofs.Common.{◌∙◌, List, ◌∷◌, [], Some, ap, sym}}
+use Rattle.pim_types.{specs.declared.{event.Event.Event, outcome.Emission.Emission}}
 use Rattle.pim_model.{specs.Network.moved_at}
 use Rattle.pim_net.{specs.Showing.with_sent_at}
 use Rattle.igmp_older.{specs.{Joined.joined_step, Presence.Present}}
@@ -12,10 +12,10 @@ pub returns-clause-outcome : goal.returns-clause-outcome
 returns-clause-outcome g c n st is here =
     let sets = c.args.station.now.anycast in
     let p = c.args.station.now.presence in
-    let stands = c.in-Some.ensures.some.0 ∙ shown _ n c.args.router st is here in
+    let stands = c.in-Some.ensures.some.0 ∙ shown c.args.net.now.network n c.args.router st is here in
     let copies = c.in_ok-event.ensures.copies st.state stands in
     let given = c.in_ok-event.ensures.event st.state stands in
-    let sent = of_some _ _ n is c.in_ok-send.ensures.network
+    let sent = of_some c.args.net.now.network _ n is c.in_ok-send.ensures.network
     ∙ ap (λ (es : List Emission). Some (with_sent_at n c.args.router es)) (c.as_slice.ensures ∙ copies) in
     let still = copied_here n c.args.router st here sets p c.args.event in
     let network = c.in_ok-log.ensures.network (copied n c.args.router st here sets p c.args.event) st sent still
@@ -34,10 +34,10 @@ pub returns-clause-network : goal.returns-clause-network
 returns-clause-network g c n st is here =
     let sets = c.args.station.now.anycast in
     let p = c.args.station.now.presence in
-    let stands = c.in-Some.ensures.some.0 ∙ shown _ n c.args.router st is here in
+    let stands = c.in-Some.ensures.some.0 ∙ shown c.args.net.now.network n c.args.router st is here in
     let copies = c.in_ok-event.ensures.copies st.state stands in
     let given = c.in_ok-event.ensures.event st.state stands in
-    let sent = of_some _ _ n is c.in_ok-send.ensures.network
+    let sent = of_some c.args.net.now.network _ n is c.in_ok-send.ensures.network
     ∙ ap (λ (es : List Emission). Some (with_sent_at n c.args.router es)) (c.as_slice.ensures ∙ copies) in
     let still = copied_here n c.args.router st here sets p c.args.event in
     let network = c.in_ok-log.ensures.network (copied n c.args.router st here sets p c.args.event) st sent still
@@ -53,10 +53,10 @@ pub returns-clause-station : goal.returns-clause-station
 returns-clause-station g c n st is here =
     let sets = c.args.station.now.anycast in
     let p = c.args.station.now.presence in
-    let stands = c.in-Some.ensures.some.0 ∙ shown _ n c.args.router st is here in
+    let stands = c.in-Some.ensures.some.0 ∙ shown c.args.net.now.network n c.args.router st is here in
     let copies = c.in_ok-event.ensures.copies st.state stands in
     let given = c.in_ok-event.ensures.event st.state stands in
-    let sent = of_some _ _ n is c.in_ok-send.ensures.network
+    let sent = of_some c.args.net.now.network _ n is c.in_ok-send.ensures.network
     ∙ ap (λ (es : List Emission). Some (with_sent_at n c.args.router es)) (c.as_slice.ensures ∙ copies) in
     let still = copied_here n c.args.router st here sets p c.args.event in
     let known = c.in_ok-log.ensures.presence (copied n c.args.router st here sets p c.args.event) st sent still in
