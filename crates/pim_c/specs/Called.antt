@@ -17,7 +17,7 @@ use Rattle.pim_anycast.{specs.{Sets.are_rp_sets, declared.set.RpSet.RpSet}}
 use Rattle.pim_session.{specs.{Front.{Front, hosts_set, interface_test, older_rows, version_set}, Leaving.{GoesOnFrom, LeftIsAsked}, Saved.{front_resumed, saved_parts}, Session.ShownSession, Shared.{event_in, front_in, is_sure_in, leaving, left_in, seen_in, seen_leaving}, Untaken.{IsStill, has_untaken}}}
 use Rattle.igmp_older.{specs.declared.{mode.OlderRow.OlderRow, setting.{OlderHosts.OlderHosts, QueryVersion.QueryVersion}}}
 use Rattle.pim_types.{specs.declared.{config.Config.Config, event.Event.Event, fact.Key.Key, outcome.Emission.Emission}}
-use Rattle.pim_c.{specs.{Returned.{answer_number, bytes_in, kept_number, name_of, no_interface_number, older_group_of, set_number, c_packet, written_into}, declared.returned.{Forwarding.Forwarding, Interfaces.Interfaces, NamedSource.NamedSource, OlderGroup.OlderGroup, Packet.Packet, PlaneRow.PlaneRow}}}
+use Rattle.pim_c.{specs.{Returned.{answer_number, bytes_in, kept_number, no_interface_number, set_number, c_packet, written_into}, Written.{Unwritten, ValueWritten}, declared.returned.{Forwarding.Forwarding, Interfaces.Interfaces, Packet.Packet, PlaneRow.PlaneRow}}}
 
 -- What a session shows of a router that goes on from a state: the guard stands before it, and what was saved of older
 -- hosts, if anything was; it is in no set of RPs, and nothing is kept.
@@ -299,21 +299,13 @@ PacketTaken (Some s) is_taken packet written room filled left =
 abbrev pub cleared : ShownSession → ShownSession
 cleared s = record s { sent = [] }
 
-abbrev pub OlderWritten : Option OlderRow → Bool → OlderGroup → OlderGroup → Type 0
-OlderWritten None is_there row written = (is_there ≡ false) × (written ≡ row)
-OlderWritten (Some found) is_there row written = (is_there ≡ true) × (written ≡ older_group_of found)
-
-abbrev pub NameWritten : Option Key → Bool → NamedSource → NamedSource → Type 0
-NameWritten None is_there name written = (is_there ≡ false) × (written ≡ name)
-NameWritten (Some key) is_there name written = (is_there ≡ true) × (written ≡ name_of key)
-
 -- the interfaces that pass a test, as bits
 abbrev pub interface_bits : Set → Interfaces
 interface_bits p = record { low = mask_of p 64; high = mask_of (λ q. p (64 + q)) 56 }
 
--- The answers of a source and RPF_interface(RP(G)), as C reads them.
-abbrev pub forwarding_of : Answers → Option ℕ → Forwarding
-forwarding_of a shared_rpf = record {
+-- RPF_interface(RP(G)) and the answers of a source, as C reads them.
+abbrev pub forwarding_of : Option ℕ → Answers → Forwarding
+forwarding_of shared_rpf a = record {
   rpf = unwrap_or a.rpf no_interface_number;
   shared_rpf = unwrap_or shared_rpf no_interface_number;
   has_spt_bit = a.spt;
@@ -323,15 +315,11 @@ forwarding_of a shared_rpf = record {
   shared_tree = interface_bits a.inherited_rpt;
 }
 
-abbrev pub AnswersWritten : Option Answers → Option ℕ → Bool → Forwarding → Forwarding → Type 0
-AnswersWritten None shared_rpf is_there row written = (is_there ≡ false) × (written ≡ row)
-AnswersWritten (Some a) shared_rpf is_there row written = (is_there ≡ true) × (written ≡ forwarding_of a shared_rpf)
-
 -- The row of a source with a fact is written out.
 abbrev pub CachedWritten : Option Standing → ℕ → ℕ → Bool → Forwarding → Forwarding → Type 0
-CachedWritten None source group is_there row written = (is_there ≡ false) × (written ≡ row)
+CachedWritten None source group is_there row written = Unwritten is_there row written
 CachedWritten (Some r) source group is_there row written =
-    AnswersWritten (cached r.state group source) (rpf_interface_rp r.state group) is_there row written
+    ValueWritten (forwarding_of (rpf_interface_rp r.state group)) (cached r.state group source) is_there row written
 
 -- What is offered of a source, as C reads it.
 abbrev pub plane_row_of : Offered → PlaneRow
@@ -343,14 +331,11 @@ plane_row_of o = record {
   to_core = interface_bits o.row.to_core;
 }
 
-abbrev pub OfferWritten : Option Offered → Bool → PlaneRow → PlaneRow → Type 0
-OfferWritten None is_there row written = (is_there ≡ false) × (written ≡ row)
-OfferWritten (Some o) is_there row written = (is_there ≡ true) × (written ≡ plane_row_of o)
-
 -- What a data plane may do with the packets of a source is written out.
 abbrev pub OffloadWritten : Option Standing → ℕ → ℕ → Bool → PlaneRow → PlaneRow → Type 0
-OffloadWritten None source group is_there row written = (is_there ≡ false) × (written ≡ row)
-OffloadWritten (Some r) source group is_there row written = OfferWritten (offered r.state group source) is_there row written
+OffloadWritten None source group is_there row written = Unwritten is_there row written
+OffloadWritten (Some r) source group is_there row written =
+    ValueWritten plane_row_of (offered r.state group source) is_there row written
 
 abbrev pub MadeBy : Result (Unit {0}) Refusal → Option ShownSession → Config → ℕ → Option ShownSession → Type 0
 MadeBy (Ok _) old config answer left = (answer ≡ 0) × (left ≡ Some (new_shown config))

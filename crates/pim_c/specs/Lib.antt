@@ -7,4 +7,5 @@ pub mod Reloaded
 pub mod Returned
 pub mod Rows
 pub mod Trees
+pub mod Written
 pub use Rattle.pim_session.specs.Session

@@ -1,5 +1,5 @@
 -- What C reads of a row of a table: the letter of the table, and the columns of its kind. Those of the other kinds are 0.
-use Rattle.std.{specs.Prelude.{Bool, None, Option, Some, false, true, unwrap_or, ℕ, ◌≡◌}}
+use Rattle.std.{specs.Prelude.{Bool, None, Option, Some, false, true, unwrap_or, ℕ}}
 use Rattle.pim_types.{specs.declared.fact.AssertRole.AssertRole}
 use Rattle.pim_rows.{specs.declared.table.{DownstreamState.DownstreamState, RegisterName.RegisterName, Row.Row}}
 use Rattle.pim_c.{specs.{Returned.{never, source_or_zero}, declared.rows.{ActiveColumns.ActiveColumns, AssertColumns.AssertColumns, DownstreamColumns.DownstreamColumns, GroupColumns.GroupColumns, NeighbourColumns.NeighbourColumns, RptColumns.RptColumns, SourceColumns.SourceColumns, CRow.CRow, UpstreamColumns.UpstreamColumns}}}
@@ -79,8 +79,3 @@ row_of (Row.Active group source keepalive spt register) = record (blank 70) {
     register_state = register_number register;
   };
 }
-
--- One of the rows that were read is written out as C reads it, where there is one of the number.
-abbrev pub RowWritten : Option Row → Bool → CRow → CRow → Type 0
-RowWritten None is_there row written = (is_there ≡ false) × (written ≡ row)
-RowWritten (Some found) is_there row written = (is_there ≡ true) × (written ≡ row_of found)

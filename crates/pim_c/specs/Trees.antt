@@ -1,5 +1,5 @@
 -- What C reads of the router's trees and links.
-use Rattle.std.{specs.{Option.option_map_or, Prelude.{Bool, None, Option, Some, false, option_and_then, option_map, true, unwrap_or, ℕ, ◌≡◌}}}
+use Rattle.std.{specs.{Option.option_map_or, Prelude.{None, Option, Some, false, option_and_then, option_map, true, unwrap_or, ℕ}}}
 use Rattle.pim_ip.{specs.declared.{addr.Addr.Addr, lan.LanDelay.LanDelay}}
 use Rattle.pim_ifset.{specs.Members.has}
 use Rattle.pim_types.{specs.declared.{fact.{QuerierRole.QuerierRole, QuerierRow.QuerierRow}, path.{Hop.Hop, Path.Path}, upstream.TreeState.TreeState}}
@@ -117,11 +117,6 @@ neighbour_of n = record {
   generation = number_of_option n.generation;
   lan_delay = lan_delay_of n.lan_delay;
 }
-
--- A value that exists is written out as C reads it.
-abbrev pub ValueWritten : {V T : Type 0} → (V → T) → Option V → Bool → T → T → Type 0
-ValueWritten read None is_there out written = (is_there ≡ false) × (written ≡ out)
-ValueWritten read (Some v) is_there out written = (is_there ≡ true) × (written ≡ read v)
 
 -- what a router that works tells; none without one
 abbrev pub tree_in : Option Standing → ℕ → Option Tree

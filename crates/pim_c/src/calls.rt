@@ -1,13 +1,14 @@
 //! The functions that C calls. Each takes the session out of the handle, calls it, and puts it back.
 ghost use Rattle.law_plane.specs.Seen.{seen_event};
-ghost use Rattle.pim_c.specs.Called.{CachedWritten, Copied, GuardSetBy, HostsSetBy, KeepAnswered, Made, NameWritten, OffloadWritten, OlderRead, OlderWritten, PacketTaken, ReadBy, Restored, RpSetsSet, Saved, Seen, Stepped, VersionSetBy, changed_in, cleared, may_differ_in, older_rows_in, packets_in, probes_in, rows_in, standing_in, touched_in};
+ghost use Rattle.pim_c.specs.Called.{CachedWritten, Copied, GuardSetBy, HostsSetBy, KeepAnswered, Made, OffloadWritten, OlderRead, PacketTaken, ReadBy, Restored, RpSetsSet, Saved, Seen, Stepped, VersionSetBy, changed_in, cleared, may_differ_in, older_rows_in, packets_in, probes_in, rows_in, standing_in, touched_in};
 ghost use Rattle.pim_c.specs.Given.{config_of, given_event, place_of, range_of, route_of, rp_set_of};
 ghost use Rattle.pim_c.specs.Placed.{PlacedCopy};
 ghost use Rattle.pim_c.specs.Recorded.{Written, given_text, placed_text, ranges_text, reload_text, routes_text, rp_sets_text};
 ghost use Rattle.pim_c.specs.Reloaded.{ReloadedCopy};
-ghost use Rattle.pim_c.specs.Rows.{RowWritten};
-ghost use Rattle.pim_c.specs.Returned.{guard_of, never, older_hosts_of, query_version_of, table_of_letter};
-ghost use Rattle.pim_c.specs.Trees.{ValueWritten, link_in, link_of, neighbour_in, neighbour_of, source_tree_in, source_tree_of, tree_in, tree_of};
+ghost use Rattle.pim_c.specs.Rows.{row_of};
+ghost use Rattle.pim_c.specs.Returned.{guard_of, name_of, never, older_group_of, older_hosts_of, query_version_of, table_of_letter};
+ghost use Rattle.pim_c.specs.Trees.{link_in, link_of, neighbour_in, neighbour_of, source_tree_in, source_tree_of, tree_in, tree_of};
+ghost use Rattle.pim_c.specs.Written.{ValueWritten};
 ghost use Rattle.pim_ifset.specs.Members.{iface_of};
 ghost use Rattle.pim_model.specs.Judging.{last_moment};
 ghost use Rattle.pim_saver.specs.Records.{sum_of};
@@ -375,7 +376,7 @@ pub extern "C" fn viq_core_row(
     index: usize,
     row: &mut CRow,
 ) -> bool
-    ensures written { RowWritten (slice_get (rows_in router.old.place.inside) index) result row.old row.new }
+    ensures written { ValueWritten row_of (slice_get (rows_in router.old.place.inside) index) result row.old row.new }
     ensures stays { router.new.place.inside ≡ router.old.place.inside }
 {
     let Some(session) = router.take(alloc) else {
@@ -511,7 +512,7 @@ pub extern "C" fn viq_core_older_row(
     index: usize,
     row: &mut OlderGroup,
 ) -> bool
-    ensures written { OlderWritten (slice_get (older_rows_in router.old.place.inside) index) result row.old row.new }
+    ensures written { ValueWritten older_group_of (slice_get (older_rows_in router.old.place.inside) index) result row.old row.new }
     ensures stays { router.new.place.inside ≡ router.old.place.inside }
 {
     let Some(session) = router.take(alloc) else {
@@ -675,7 +676,7 @@ pub extern "C" fn viq_core_changed_source(
     index: usize,
     name: &mut NamedSource,
 ) -> bool
-    ensures written { NameWritten (slice_get (changed_in router.old.place.inside) index) result name.old name.new }
+    ensures written { ValueWritten name_of (slice_get (changed_in router.old.place.inside) index) result name.old name.new }
     ensures stays { router.new.place.inside ≡ router.old.place.inside }
 {
     let Some(session) = router.take(alloc) else {

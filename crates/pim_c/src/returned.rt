@@ -12,8 +12,9 @@ ghost use Rattle.pim_model.specs.Sets.{Set};
 ghost use Rattle.law_plane.specs.Offered.{Offered as OfferedValue};
 ghost use Rattle.pim_mfc.specs.Shown.{ShowsOffered, TellsOffload};
 ghost use Rattle.pim_state.specs.Shown.{Shows};
-ghost use Rattle.pim_c.specs.Called.{AnswersWritten, NameWritten, OfferWritten, OlderWritten, PacketWritten, forwarding_of, interface_bits, is_copy, plane_row_of};
+ghost use Rattle.pim_c.specs.Called.{PacketWritten, forwarding_of, interface_bits, is_copy, plane_row_of};
 ghost use Rattle.pim_c.specs.Returned.{answer_number, bytes_in, guard_of, iface_number, ignored_number, kept_number, link_kind, failure_number, mode_number, name_of, older_group_of, older_hosts_of, query_version_of, reload_number, rp_sets_number, set_number, stop_number, c_packet, table_of_letter, verdict_number, written_into};
+ghost use Rattle.pim_c.specs.Written.{Unwritten, ValueWritten};
 
 use igmp_older::{Mode, OlderHosts, OlderRow, QueryVersion};
 use pim_anycast::BadRpSet;
@@ -375,7 +376,7 @@ pub(crate) fn words(set: IfSet) -> Interfaces
 
 /// A row of the forwarding cache, with RPF_interface(RP(G)), as C reads it.
 pub fn cache_row(row: &CacheRow, shared_rpf: Option<IfaceId>) -> Forwarding
-    ensures { (a : Answers) → IsAfresh row.now a → result ≡ forwarding_of a (number_of shared_rpf) }
+    ensures { (a : Answers) → IsAfresh row.now a → result ≡ forwarding_of (number_of shared_rpf) a }
 {
     Forwarding {
         rpf: iface_number(row.rpf),
@@ -484,7 +485,7 @@ pub fn write_packet(sent: &[Emission], copies: u32, packet: &mut Packet, room: &
 
 /// Writes out one of the groups in an older mode, if it exists.
 pub fn write_older(rows: &[OlderRow], index: usize, row: &mut OlderGroup) -> bool
-    ensures { OlderWritten (slice_get rows.now index) result row.old row.new }
+    ensures { ValueWritten older_group_of (slice_get rows.now index) result row.old row.new }
 {
     match rows.get(index) {
         Some(found) => {
@@ -502,8 +503,8 @@ pub fn write_cached(
     forwarding: &mut Forwarding,
 ) -> bool
     ensures written { (answers : Option Answers) → TellsRow row answers
-        → AnswersWritten answers (number_of shared_rpf) result forwarding.old forwarding.new }
-    ensures none { row ≡ None → (result ≡ false) × (forwarding.new ≡ forwarding.old) }
+        → ValueWritten (forwarding_of (number_of shared_rpf)) answers result forwarding.old forwarding.new }
+    ensures none { row ≡ None → Unwritten result forwarding.old forwarding.new }
 {
     match row {
         Some(row) => {
@@ -516,8 +517,9 @@ pub fn write_cached(
 
 /// Writes out what is offered of a source, if anything is.
 pub fn write_offload(offered: Option<Offered>, row: &mut PlaneRow) -> bool
-    ensures written { (offer : Option OfferedValue) → TellsOffload offered offer → OfferWritten offer result row.old row.new }
-    ensures none { offered ≡ None → (result ≡ false) × (row.new ≡ row.old) }
+    ensures written { (offer : Option OfferedValue) → TellsOffload offered offer
+        → ValueWritten plane_row_of offer result row.old row.new }
+    ensures none { offered ≡ None → Unwritten result row.old row.new }
 {
     match offered {
         Some(offered) => {
@@ -530,7 +532,7 @@ pub fn write_offload(offered: Option<Offered>, row: &mut PlaneRow) -> bool
 
 /// Writes out one of the sources, if it exists.
 pub fn write_name(names: &[SourceGroup], index: usize, name: &mut NamedSource) -> bool
-    ensures { NameWritten (slice_get (keys_of names.now) index) result name.old name.new }
+    ensures { ValueWritten name_of (slice_get (keys_of names.now) index) result name.old name.new }
 {
     match names.get(index) {
         Some(found) => {

@@ -1,8 +1,9 @@
 //! Rows of tables as C reads them: the columns of each kind of row in a value of their own.
 ghost use Rattle.std.specs.Prelude.{◌≡◌, Some};
 ghost use Rattle.pim_rows.specs.declared.table.Row.{Row};
-ghost use Rattle.pim_c.specs.Rows.{RowWritten, blank, downstream_number, is_loser_role, register_number, row_of};
+ghost use Rattle.pim_c.specs.Rows.{blank, downstream_number, is_loser_role, register_number, row_of};
 ghost use Rattle.pim_c.specs.Returned.{source_or_zero};
+ghost use Rattle.pim_c.specs.Written.{ValueWritten};
 ghost use Rattle.std.specs.List.{slice_get};
 
 use crate::returned::NEVER;
@@ -423,7 +424,7 @@ pub fn c_row(row: &Row) -> CRow
 
 /// Writes out one of the rows, if it exists.
 pub fn write_row(rows: &[Row], index: usize, out: &mut CRow) -> bool
-    ensures { RowWritten (slice_get rows.now index) result out.old out.new }
+    ensures { ValueWritten row_of (slice_get rows.now index) result out.old out.new }
 {
     match rows.get(index) {
         Some(found) => {

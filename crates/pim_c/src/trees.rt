@@ -2,7 +2,8 @@
 ghost use Rattle.std.specs.Prelude.{◌≡◌, option_map};
 ghost use Rattle.pim_ifset.specs.Members.{has};
 ghost use Rattle.pim_c.specs.Called.{interface_bits};
-ghost use Rattle.pim_c.specs.Trees.{ValueWritten, cause_number, hop_of, lan_delay_of, link_of, neighbour_of, number_of_option, path_of, querier_of, source_tree_of, state_number, tree_of};
+ghost use Rattle.pim_c.specs.Trees.{cause_number, hop_of, lan_delay_of, link_of, neighbour_of, number_of_option, path_of, querier_of, source_tree_of, state_number, tree_of};
+ghost use Rattle.pim_c.specs.Written.{ValueWritten};
 
 use crate::returned::{Interfaces, NEVER, words};
 use pim_ifset::IfSet;
