@@ -17,7 +17,7 @@ use Rattle.pim_anycast.{specs.{Sets.are_rp_sets, declared.set.RpSet.RpSet}}
 use Rattle.pim_session.{specs.{Front.{Front, hosts_set, interface_test, older_rows, version_set}, Leaving.{GoesOnFrom, LeftIsAsked}, Saved.{front_resumed, saved_parts}, Session.ShownSession, Shared.{event_in, front_in, is_sure_in, leaving, left_in, seen_in, seen_leaving}, Untaken.{IsStill, has_untaken}}}
 use Rattle.igmp_older.{specs.declared.{mode.OlderRow.OlderRow, setting.{OlderHosts.OlderHosts, QueryVersion.QueryVersion}}}
 use Rattle.pim_types.{specs.declared.{config.Config.Config, event.Event.Event, fact.Key.Key, outcome.Emission.Emission}}
-use Rattle.pim_c.{specs.{Returned.{answer_number, bytes_in, kept_number, no_interface_number, set_number, c_packet, written_into}, Written.{Unwritten, ValueWritten}, declared.returned.{Forwarding.Forwarding, Interfaces.Interfaces, Packet.Packet, PlaneRow.PlaneRow}}}
+use Rattle.pim_c.{specs.{Returned.{answer_number, bytes_in, kept_number, no_interface_number, set_number, c_packet, written_into}, Written.{NoBytesWritten, Untouched, Unwritten, ValueWritten}, declared.returned.{Forwarding.Forwarding, Interfaces.Interfaces, Packet.Packet, PlaneRow.PlaneRow}}}
 
 -- What a session shows of a router that goes on from a state: the guard stands before it, and what was saved of older
 -- hosts, if anything was; it is in no set of RPs, and nothing is kept.
@@ -68,13 +68,13 @@ TakenBehind s r e left = Went s r (event_in s r.state e) left × (left.front ≡
 
 -- What a call does to a handle and answers: without a router it answers 50; else it does what is said of the session.
 abbrev pub AtSession : (ShownSession → ℕ → ShownSession → Type 0) → Option ShownSession → ℕ → Option ShownSession → Type 0
-AtSession does None answer left = (answer ≡ 50) × (left ≡ None)
+AtSession does None answer left = Untouched 50 None answer left
 AtSession does (Some s) answer (Some left) = does s answer left
 AtSession does (Some s) answer None = ⊥
 
 -- While packets of the event before are untaken an event is refused, and nothing changes.
 abbrev pub UnlessUntaken : Bool → ShownSession → ℕ → ShownSession → Type 0 → Type 0
-UnlessUntaken true s answer left taken = (answer ≡ 55) × (left ≡ s)
+UnlessUntaken true s answer left taken = Untouched 55 s answer left
 UnlessUntaken false s answer left taken = taken
 
 -- What a session shows after an event that its guard stopped: its router is in the same state and lists nothing as
@@ -107,7 +107,7 @@ refused_number (Some r) false = 40
 
 -- An allocation failed for an event that is to be copied, and nothing changed.
 abbrev pub Refused : Option ShownSession → ℕ → Option ShownSession → Type 0
-Refused None answer left = (answer ≡ 50) × (left ≡ None)
+Refused None answer left = Untouched 50 None answer left
 Refused (Some s) answer left = (answer ≡ refused_number s.router.standing (has_untaken s)) × (left ≡ Some s)
 
 -- The event was copied or an allocation failed for that; if it was copied, the router took it, or an allocation failed.
@@ -138,14 +138,14 @@ SourceKept old source group moment answer left = AtSession (λ s. SourceKeptFrom
 
 -- A timestamp past the latest is refused, and nothing changes; else the source's keepalive timer is moved.
 abbrev pub KeepAnswered : Bool → Option ShownSession → ℕ → ℕ → ℕ → ℕ → Option ShownSession → Type 0
-KeepAnswered true old source group moment answer left = (answer ≡ 21) × (left ≡ old)
+KeepAnswered true old source group moment answer left = Untouched 21 old answer left
 KeepAnswered false old source group moment answer left = SourceKept old source group moment answer left
 
 abbrev pub ReadFrom : ShownSession → Option Standing → Table → ℕ → ShownSession → Type 0
-ReadFrom s None table answer left = (answer ≡ 41) × (left ≡ s)
+ReadFrom s None table answer left = Untouched 41 s answer left
 ReadFrom s (Some r) table answer left =
     ((answer ≡ 0) × (left ≡ record s { rows = rows r.state table }))
-    ⊎ ((answer ≡ 40) × (left ≡ s))
+    ⊎ Untouched 40 s answer left
 
 -- The rows of the table were read, or an allocation failed.
 abbrev pub Read : Option ShownSession → Table → ℕ → Option ShownSession → Type 0
@@ -153,14 +153,14 @@ Read old table answer left = AtSession (λ s. ReadFrom s s.router.standing table
 
 -- A letter of no table is refused, and nothing is read; else the rows of its table are read.
 abbrev pub ReadBy : Option ShownSession → Option Table → ℕ → Option ShownSession → Type 0
-ReadBy old None answer left = (answer ≡ 51) × (left ≡ old)
+ReadBy old None answer left = Untouched 51 old answer left
 ReadBy old (Some table) answer left = Read old table answer left
 
 abbrev pub HostsSetFrom : ShownSession → Option Standing → ℕ → OlderHosts → ℕ → ShownSession → Type 0
-HostsSetFrom s None i hosts answer left = (answer ≡ 41) × (left ≡ s)
+HostsSetFrom s None i hosts answer left = Untouched 41 s answer left
 HostsSetFrom s (Some r) i hosts answer left =
     ((answer ≡ set_number (interface_test r.state i)) × (left ≡ record s { front = hosts_set r.state s.front i hosts }))
-    ⊎ ((answer ≡ 40) × (left ≡ s))
+    ⊎ Untouched 40 s answer left
 
 -- The hosts that an interface hears were set, or the interface was refused, or an allocation failed.
 abbrev pub HostsSet : Option ShownSession → ℕ → OlderHosts → ℕ → Option ShownSession → Type 0
@@ -168,14 +168,14 @@ HostsSet old i hosts answer left = AtSession (λ s. HostsSetFrom s s.router.stan
 
 -- A number that names no hosts is refused, and nothing changes; else the hosts are set.
 abbrev pub HostsSetBy : Option ShownSession → ℕ → Option OlderHosts → ℕ → Option ShownSession → Type 0
-HostsSetBy old i None answer left = (answer ≡ 54) × (left ≡ old)
+HostsSetBy old i None answer left = Untouched 54 old answer left
 HostsSetBy old i (Some hosts) answer left = HostsSet old i hosts answer left
 
 abbrev pub VersionSetFrom : ShownSession → Option Standing → ℕ → QueryVersion → ℕ → ShownSession → Type 0
-VersionSetFrom s None i version answer left = (answer ≡ 41) × (left ≡ s)
+VersionSetFrom s None i version answer left = Untouched 41 s answer left
 VersionSetFrom s (Some r) i version answer left =
     ((answer ≡ set_number (interface_test r.state i)) × (left ≡ record s { front = version_set r.state s.front i version }))
-    ⊎ ((answer ≡ 40) × (left ≡ s))
+    ⊎ Untouched 40 s answer left
 
 -- The version in which an interface queries was set, or the interface was refused, or an allocation failed.
 abbrev pub VersionSet : Option ShownSession → ℕ → QueryVersion → ℕ → Option ShownSession → Type 0
@@ -183,11 +183,11 @@ VersionSet old i version answer left = AtSession (λ s. VersionSetFrom s s.route
 
 -- A number that names no version is refused, and nothing changes; else the version is set.
 abbrev pub VersionSetBy : Option ShownSession → ℕ → Option QueryVersion → ℕ → Option ShownSession → Type 0
-VersionSetBy old i None answer left = (answer ≡ 54) × (left ≡ old)
+VersionSetBy old i None answer left = Untouched 54 old answer left
 VersionSetBy old i (Some version) answer left = VersionSet old i version answer left
 
 abbrev pub GuardSetFrom : ShownSession → Option Standing → Bool → ℕ → ShownSession → Type 0
-GuardSetFrom s None is_on answer left = (answer ≡ 41) × (left ≡ s)
+GuardSetFrom s None is_on answer left = Untouched 41 s answer left
 GuardSetFrom s (Some r) is_on answer left = (answer ≡ 0) × (left ≡ record s { guard = is_on })
 
 -- The guard was set on or off.
@@ -196,28 +196,28 @@ GuardSet old is_on answer left = AtSession (λ s. GuardSetFrom s s.router.standi
 
 -- A number that says neither is refused, and nothing changes; else the guard is set.
 abbrev pub GuardSetBy : Option ShownSession → Option Bool → ℕ → Option ShownSession → Type 0
-GuardSetBy old None answer left = (answer ≡ 54) × (left ≡ old)
+GuardSetBy old None answer left = Untouched 54 old answer left
 GuardSetBy old (Some is_on) answer left = GuardSet old is_on answer left
 
 abbrev pub RpSetsTaken : Bool → ShownSession → List RpSet → ℕ → ShownSession → Type 0
 RpSetsTaken true s sets answer left = (answer ≡ 0) × (left ≡ record s { sets = sets })
-RpSetsTaken false s sets answer left = (answer ≡ 74) × (left ≡ s)
+RpSetsTaken false s sets answer left = Untouched 74 s answer left
 
 abbrev pub RpSetsSetFrom : ShownSession → Option Standing → List RpSet → ℕ → ShownSession → Type 0
-RpSetsSetFrom s None sets answer left = (answer ≡ 41) × (left ≡ s)
+RpSetsSetFrom s None sets answer left = Untouched 41 s answer left
 RpSetsSetFrom s (Some r) sets answer left = RpSetsTaken (are_rp_sets r.state.configured sets) s sets answer left
 
 -- The sets of RPs that share an address were set, if the router can have them; or they were refused, or an allocation
 -- failed for their copy, and nothing changed.
 abbrev pub RpSetsSet : Option ShownSession → List RpSet → ℕ → Option ShownSession → Type 0
 RpSetsSet old sets answer left =
-    AtSession (λ s. RpSetsSetFrom s s.router.standing sets) old answer left ⊎ ((answer ≡ 40) × (left ≡ old))
+    AtSession (λ s. RpSetsSetFrom s s.router.standing sets) old answer left ⊎ Untouched 40 old answer left
 
 abbrev pub OlderReadFrom : ShownSession → Option Standing → ℕ → ShownSession → Type 0
-OlderReadFrom s None answer left = (answer ≡ 41) × (left ≡ s)
+OlderReadFrom s None answer left = Untouched 41 s answer left
 OlderReadFrom s (Some r) answer left =
     ((answer ≡ 0) × (left ≡ record s { older_rows = older_rows s.front r.state }))
-    ⊎ ((answer ≡ 40) × (left ≡ s))
+    ⊎ Untouched 40 s answer left
 
 -- The groups in an older mode were read, or an allocation failed.
 abbrev pub OlderRead : Option ShownSession → ℕ → Option ShownSession → Type 0
@@ -339,21 +339,21 @@ OffloadWritten (Some r) source group is_there row written =
 
 abbrev pub MadeBy : Result (Unit {0}) Refusal → Option ShownSession → Config → ℕ → Option ShownSession → Type 0
 MadeBy (Ok _) old config answer left = (answer ≡ 0) × (left ≡ Some (new_shown config))
-MadeBy (Err refusal) old config answer left = (answer ≡ refusal_number refusal) × (left ≡ old)
+MadeBy (Err refusal) old config answer left = Untouched (refusal_number refusal) old answer left
 
 -- A router was made of the configuration, or the configuration was refused, or an allocation failed.
 abbrev pub Made : Option ShownSession → Config → ℕ → Option ShownSession → Type 0
-Made old config answer left = MadeBy (config_test config) old config answer left ⊎ ((answer ≡ 40) × (left ≡ old))
+Made old config answer left = MadeBy (config_test config) old config answer left ⊎ Untouched 40 old answer left
 
 abbrev pub RestoredBy : Result (Unit {0}) HeldRefusal → List ℕ → Option ShownSession → ℕ → Option ShownSession → Type 0
 RestoredBy (Ok _) bytes old answer left = (answer ≡ 0) × ((h : Held) → held_reading bytes ≡ Ok h → left ≡ Some (restored_shown h))
     × IfSome (standing_in left) (λ r. GoesOnFrom bytes r.state)
-RestoredBy (Err refusal) bytes old answer left = (answer ≡ held_refusal_number refusal) × (left ≡ old)
+RestoredBy (Err refusal) bytes old answer left = Untouched (held_refusal_number refusal) old answer left
 
 -- A router was made that is in the state that the bytes say, with the rows of older hosts in them before it, to which led
 -- what led to the state of which they were saved, or the bytes were refused, or an allocation failed.
 abbrev pub Restored : Option ShownSession → List ℕ → ℕ → Option ShownSession → Type 0
-Restored old bytes answer left = RestoredBy (held_restore_test bytes) bytes old answer left ⊎ ((answer ≡ 40) × (left ≡ old))
+Restored old bytes answer left = RestoredBy (held_restore_test bytes) bytes old answer left ⊎ Untouched 40 old answer left
 
 -- The bytes were written, as many as fit, with their length.
 abbrev pub Wrote : Held → ℕ → List ℕ → List ℕ → Type 0
@@ -361,12 +361,12 @@ Wrote h written room filled =
     (written ≡ length (held_text h)) × (filled ≡ written_into room (held_text h)) × FitsHeld h × IsResumable h.state
 
 abbrev pub SavedFrom : Option Standing → Option Front → ℕ → ℕ → ℕ → List ℕ → List ℕ → Type 0
-SavedFrom None front answer size written room filled = (answer ≡ 41) × (written ≡ size) × (filled ≡ room)
+SavedFrom None front answer size written room filled = NoBytesWritten 41 answer size written room filled
 SavedFrom (Some r) front answer size written room filled =
-    ((answer ≡ 0) × Wrote (saved_parts r.state front) written room filled) ⊎ ((answer ≡ 40) × (written ≡ size) × (filled ≡ room))
+    ((answer ≡ 0) × Wrote (saved_parts r.state front) written room filled) ⊎ NoBytesWritten 40 answer size written room filled
 
 -- The text of the router's state with its rows of older hosts was written, as much as fits, with its length, or an
 -- allocation failed.
 abbrev pub Saved : Option ShownSession → ℕ → ℕ → ℕ → List ℕ → List ℕ → Type 0
-Saved None answer size written room filled = (answer ≡ 50) × (written ≡ size) × (filled ≡ room)
+Saved None answer size written room filled = NoBytesWritten 50 answer size written room filled
 Saved (Some s) answer size written room filled = SavedFrom s.router.standing s.front answer size written room filled

@@ -4,7 +4,7 @@ use Rattle.pim_ifset.{specs.Members.iface_of}
 use Rattle.pim_ip.{specs.Addr.addr}
 use Rattle.pim_types.{specs.declared.{config.Config.Config, event.EventKind.EventKind}}
 use Rattle.pim_saver.{specs.{Records.{Call, Guard, Hosts, Kept, Record, Reloaded, Seen, Sets, Version, event_record, front_text, placed_call, record_text, settings_in, summed}, declared.answered.Answered.Answered}}
-use Rattle.pim_c.{specs.{Given.{range_of, route_of, rp_set_of}, Returned.written_into, declared.{given.{GivenRange.GivenRange, GivenRoute.GivenRoute, GivenRpSet.GivenRpSet}, recorded.GivenCall.GivenCall}}}
+use Rattle.pim_c.{specs.{Given.{range_of, route_of, rp_set_of}, Returned.written_into, Written.NoBytesWritten, declared.{given.{GivenRange.GivenRange, GivenRoute.GivenRoute, GivenRpSet.GivenRpSet}, recorded.GivenCall.GivenCall}}}
 
 abbrev pub answered_of : GivenCall → Answered
 answered_of c = record { answer = c.answer; sum = c.sum }
@@ -77,4 +77,4 @@ placed_text c given places = record_text (placed_record c given places)
 abbrev pub Written : List ℕ → ℕ → ℕ → ℕ → List ℕ → List ℕ → Type 0
 Written text answer size written room filled =
     ((answer ≡ 0) × (written ≡ length text) × (filled ≡ written_into room text))
-    ⊎ ((answer ≡ 40) × (written ≡ size) × (filled ≡ room))
+    ⊎ NoBytesWritten 40 answer size written room filled

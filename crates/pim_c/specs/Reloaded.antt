@@ -8,7 +8,7 @@ use Rattle.pim_router.{specs.{Asked.LeadsOn, Standing.{Standing, beginning}}}
 use Rattle.pim_session.{specs.{Front.{Front, emissions_leaving}, Reloaded.front_reloaded, Session.ShownSession, Shared.reload_tested, Untaken.has_untaken, declared.refused.ReloadRefusal.ReloadRefusal}}
 use Rattle.pim_types.{specs.declared.{config.Config.Config, outcome.Emission.Emission}}
 use Rattle.pim_state.{specs.declared.touched.Touched.Touched}
-use Rattle.pim_c.{specs.{Called.{AtSession, Refused, UnlessUntaken, lost}, Returned.reload_number}}
+use Rattle.pim_c.{specs.{Called.{AtSession, Refused, UnlessUntaken, lost}, Returned.reload_number, Written.Untouched}}
 
 -- What a session shows after its router was put under another configuration, by what that makes of the router's state and
 -- sends, and by what stands before the router then: all sources with a fact before or after it are listed, all count as
@@ -28,7 +28,7 @@ pub record Put (given : Given) (made : State × List Emission) (before : Option 
 -- A configuration or a map of places that is refused, or a configuration that the sets of RPs don't fit, changes nothing.
 abbrev pub PutIfOk : Result (Unit {0}) ReloadRefusal → ShownSession → ℕ → ShownSession → Type 0 → Type 0
 PutIfOk (Ok _) s answer left put = (answer ≡ 0) × put
-PutIfOk (Err refusal) s answer left put = (answer ≡ reload_number refusal) × (left ≡ s)
+PutIfOk (Err refusal) s answer left put = Untouched (reload_number refusal) s answer left
 
 -- The call was refused for untaken packets, or the router was put under the configuration, or this was refused by its
 -- tests, or an allocation failed.

@@ -1,5 +1,16 @@
--- What a call writes out to C.
-use Rattle.std.{specs.Prelude.{Bool, None, Option, Some, false, true, ◌≡◌}}
+-- What a call leaves as it was, and what it writes out to C.
+use Rattle.std.{specs.Prelude.{Bool, List, None, Option, Some, false, true, ℕ, ◌≡◌}}
+
+-- A call answers this number, and nothing is changed.
+pub record Untouched {S : Type 0} (number : ℕ) (old : S) (answer : ℕ) (left : S) : Type 0 where
+  pub answers : answer ≡ number
+  pub stays : left ≡ old
+
+-- A call answers this number, and no byte is written, nor how many there are.
+pub record NoBytesWritten (number answer size written : ℕ) (room filled : List ℕ) : Type 0 where
+  pub answers : answer ≡ number
+  pub size_stays : written ≡ size
+  pub room_stays : filled ≡ room
 
 -- Nothing is written out: what C gave to be written is as it was.
 pub record Unwritten {T : Type 0} (is_there : Bool) (out written : T) : Type 0 where

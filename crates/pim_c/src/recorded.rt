@@ -1,5 +1,6 @@
 //! Records of calls, which a program writes one behind the other.
 ghost use Rattle.pim_c.specs.Recorded.{Written, answered_of, given_front, given_text, placed_text, ranges_text, reload_text, routes_text, rp_sets_text};
+ghost use Rattle.pim_c.specs.Written.{NoBytesWritten};
 ghost use Rattle.std.specs.Prelude.{◌≡◌, ◌++◌, IfOk, OnErr, OnOk};
 
 use crate::given::{self, GivenRange, GivenRoute, GivenRpSet};
@@ -160,7 +161,7 @@ pub fn placed_record(
 /// answer.
 pub fn tell(written: Result<Vec<u8>, AllocError>, room: &mut [u8], size: &mut usize) -> u32
     ensures ok { IfOk written (λ bytes. Written bytes.items result size.old size.new room.old room.new) }
-    ensures err { OnErr written ((result ≡ 40) × (size.new ≡ size.old) × (room.new ≡ room.old)) }
+    ensures err { OnErr written (NoBytesWritten 40 result size.old size.new room.old room.new) }
 {
     match written {
         Ok(bytes) => {
