@@ -1,9 +1,9 @@
 -- What a call does to a handle and answers, by what the handle had: nothing, a router that has failed, or one that
 -- works.
-use Rattle.std.{specs.{Option.option_map_or, Prelude.{[], Bool, Err, IfSome, List, None, Ok, Option, Result, Some, drop, false, filter, length, min, nat_le, nat_lt, option_map, true, unwrap_or, ℕ, ◌+◌, ◌∷◌, ◌≡◌, ◌⊎◌}}}
+use Rattle.std.{specs.{Option.option_map_or, Prelude.{[], Bool, Err, IfSome, List, None, Ok, Option, Result, Some, drop, false, filter, length, min, nat_le, nat_lt, true, unwrap_or, ℕ, ◌+◌, ◌∷◌, ◌≡◌, ◌⊎◌}}}
 use Rattle.pim_ip.{specs.{Refusal.refusal_number, declared.refusal.Refusal.Refusal}}
 use Rattle.pim_ifset.{specs.Members.mask_of}
-use Rattle.pim_model.{specs.{Cache.{Answers, cached}, Cause.is_on_link, Judging.last_moment, Limits.config_test, Sets.{Set, is_kept_alive}, State.{State, opening}, Step.step, Unicast.rpf_interface_rp}}
+use Rattle.pim_model.{specs.{Cache.{Answers, cached}, Cause.is_on_link, Judging.last_moment, Limits.config_test, Sets.{Set, is_kept_alive}, State.opening, Step.step, Unicast.rpf_interface_rp}}
 use Rattle.pim_rows.{specs.{Printed.rows, declared.table.{Row.Row, Table.Table}}}
 use Rattle.law_plane.{specs.{Keeping.keep, Offered.{Offered, offered}}}
 use Rattle.law_states.{specs.History.Given}
