@@ -2,8 +2,8 @@
 ghost use Rattle.std.specs.Prelude.{◌≡◌};
 
 use igmp_older::{
-    Given, Mode, OlderHosts, Presence, Querier, ResponseTimes, cut_query, translate_query,
-    note_answered, translate,
+    Given, Mode, OlderHosts, Presence, Querier, ResponseTimes, cut_query, note_answered, translate,
+    translate_query,
 };
 use pim_ip::{Addr, Refusal};
 use pim_tables::Facts;
