@@ -3,9 +3,9 @@ use Rattle.std.{proofs.Common.{◌≡◌, [], ◌∷◌, Ok, refl}}
 use Rattle.pim_model.{specs.Limits.config_test}
 use Rattle.law_plane.{specs.Keeping.{keep, keepalive_end, kept_until}}
 use Rattle.law_states.{specs.{Documented.{AreRight, act, acted, before, given, is_for_core, plane_at_opening}, Guests.{guest_handled, guest_of}, Kept.{kept_core, kept_time, told_note, told_notes}}}
-use Rattle.igmp_older.{specs.{declared.setting.OlderHosts.OlderHosts, Joined.{bytes_given, event_given, joined_step, kind_given, known_after, known_if}, Modes.{mode_of, row_by}, Naming.{groups_named, groups_of_packet}, Older.{kind_of, older_reading}, Presence.{doubted, hosts_on, left, live_rows, looked, mode_at, report_noted, row_after, timers_at}, Translation.{are_left_whole, kept_of, message_translated, older_translated, packet_given, packet_translated, records_left, report_translated, translation}}}
+use Rattle.igmp_older.{specs.declared.setting.OlderHosts.OlderHosts}
 use Rattle.law_hosts.{specs.Behind.{act_given, both_before, both_told, fronted, fronted_after, plain_behind}, proofs.PlanesBehind.plain_acts_behind_are_right}
-use Rattle.pim_runs.{specs.{Switch.switching, Behind.{HostBehindPlane, behind, reported_again}}, proofs.{OnLiterals.machine_on_literals, SplitLiterals.split_on_literals}}
+use Rattle.pim_runs.{specs.{Switch.switching, Behind.{HostBehindPlane, behind, reported_again}}, proofs.{OlderHost.front_on_literals, OnLiterals.machine_on_literals, SplitLiterals.split_on_literals}}
 
 accepted : config_test switching ≡ Ok tt
 unfolding machine_on_literals
@@ -15,5 +15,5 @@ right : AreRight (plane_at_opening switching) (behind reported_again).0
 right = (plain_acts_behind_are_right switching 100 (OlderHosts.All ∷ []) reported_again accepted).0
 
 pub host_behind_plane : HostBehindPlane
-unfolding split_on_literals machine_on_literals act acted before given is_for_core guest_handled guest_of kept_core kept_time told_note told_notes keep keepalive_end kept_until act_given both_before both_told fronted fronted_after plain_behind bytes_given kind_given event_given known_after known_if joined_step mode_of row_by groups_of_packet groups_named kind_of older_reading hosts_on live_rows timers_at mode_at report_noted doubted row_after looked left packet_given older_translated kept_of records_left are_left_whole report_translated message_translated packet_translated translation
+unfolding split_on_literals machine_on_literals act acted before given is_for_core guest_handled guest_of kept_core kept_time told_note told_notes keep keepalive_end kept_until act_given both_before both_told fronted fronted_after plain_behind front_on_literals
 host_behind_plane = record { owes = refl; tells = refl; knows = refl; right = right }

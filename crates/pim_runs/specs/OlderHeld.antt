@@ -1,16 +1,16 @@
 -- A host of version 2 reports to a router behind the front, and once more; then time passes to just before its time is over.
-use Rattle.std.{specs.Prelude.{List, [], ℕ, ◌∷◌}}
+use Rattle.std.{specs.Prelude.{List, [], ℕ, ◌++◌, ◌∷◌}}
 use Rattle.pim_types.{specs.declared.event.Event.Event}
 use Rattle.pim_model.{specs.{State.opening, Step.state_after}}
 use Rattle.igmp_older.{specs.{Joined.{Both, joined, joined_step}, Laws.nobody_known, declared.setting.OlderHosts.OlderHosts}}
 use Rattle.law_hosts.{specs.Held.IsHeld}
-use Rattle.pim_runs.{specs.{Words.{advance, frame}, ServedChain.{asked_group, first, first_meets}}}
+use Rattle.pim_runs.{specs.{Words.{advance, frame, hex}, ServedChain.{asked_group, first, first_meets}}}
 
 -- a Version 2 Membership Report of 239.1.1.1 from 10.8.0.77, to the group, with Router Alert
 abbrev pub report_two : List ℕ
 report_two =
-    0x46 ∷ 0x00 ∷ 0x00 ∷ 0x20 ∷ 0x00 ∷ 0x07 ∷ 0x00 ∷ 0x00 ∷ 0x01 ∷ 0x02 ∷ 0x2a ∷ 0x7a ∷ 0x0a ∷ 0x08 ∷ 0x00 ∷ 0x4d ∷
-    0xef ∷ 0x01 ∷ 0x01 ∷ 0x01 ∷ 0x94 ∷ 0x04 ∷ 0x00 ∷ 0x00 ∷ 0x16 ∷ 0x00 ∷ 0xf9 ∷ 0xfc ∷ 0xef ∷ 0x01 ∷ 0x01 ∷ 0x01 ∷ []
+    hex "46 00 00 20 00 07 00 00 01 02 2a 7a 0a 08 00 4d ef 01 01 01 94 04 00 00"
+    ++ hex "16 00 f9 fc ef 01 01 01"
 
 abbrev pub before : Both
 before = nobody_known 100 (OlderHosts.All ∷ []) (state_after (opening first) first_meets)
