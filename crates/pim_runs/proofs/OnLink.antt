@@ -4,7 +4,7 @@ use Rattle.pim_types.{specs.declared.{event.Event.Event, fact.JoinTimerRow.JoinT
 use Rattle.pim_model.{specs.{declared.accepted.Accepted.Accepted, Full.is_full, Limits.config_test, Network.{At, Deliver, Move, Network, Station, moved, network_ran, station_at}, State.opening}}
 use Rattle.law_events.{proofs.Rest.{opening_is_at_rest, run_is_at_rest}}
 use Rattle.law_streams.{specs.{Joins.{Hears, IsWritable, join_packet, join_value}, InTimeJoins.{Always, AreThere, ComeInTime, IsCovered, IsJoin, IsReady, Wants, entry_of, frame_of, prunes_of, time_at}, Shared.{ComesFrom, IsOnLink, IsSeenFrom, IsTakenFrom, frame_from}}, proofs.{Timed.run_is_timed, Computed.{at_another, no_others, none_new, none_pruned, one_other, stand, stands_there, timely, with_station, with_timer}, Pairs.joins_are_shared, Shared.frames_come_to_both}}
-use Rattle.pim_runs.{specs.{Words.advance, ServedChain.{asked_group, first, second, station}, InTime.{joined, late, started}, OnLink.{JoinIsOverheardInTime, JoinIsHeldBack, SharedStaysHeld, first_asked, other_address, pair, second_joined, sent, shares, three}}, proofs.{InTime.its_group, OnLiterals.machine_on_literals}}
+use Rattle.pim_runs.{specs.{Words.advance, ServedChain.{asked_group, first, second, station}, InTime.{joined, late, started}, OnLink.{JoinIsOverheardInTime, JoinIsSuppressed, SharedStaysHeld, first_asked, other_address, pair, second_joined, sent, shares, three}}, proofs.{InTime.its_group, OnLiterals.machine_on_literals}}
 
 abbrev nowhere : Station
 nowhere = record { links = []; state = opening first }
@@ -212,9 +212,9 @@ third_on_link = record {
 pub join_is_overheard_in_time : JoinIsOverheardInTime
 join_is_overheard_in_time = (first_on_link, (second_on_link, (third_on_link, tt)))
 
-pub join_is_held_back : JoinIsHeldBack
+pub join_is_suppressed : JoinIsSuppressed
 unfolding machine_on_literals join_packet
-join_is_held_back = refl
+join_is_suppressed = refl
 
 there : Always (AreThere joined asked_group pair) three shares
 there = (there_0, (there_1, (there_2, there_3)))

@@ -1,6 +1,6 @@
 -- The premises, computed.
 use Rattle.std.{proofs.Common.{◌≡◌, ◌+◌, [], ◌∷◌, length, Some, None, Ok, false, refl, lit≤}}
-use Rattle.pim_runs.{specs.{ServedChain.{asked_group, chain, content, first, first_meets, first_place, register, root, second, second_meets, second_place, sender, sent_packet, third, third_meets, third_place}, Words.{address, unicast}, StreamChain.{NextIsServed, NoneEnds, SecondBegins, WayStreams, asked_then, second_then, receivers, trees, climb, climbed, later, way}}, proofs.OnLiterals.machine_on_literals}
+use Rattle.pim_runs.{specs.{ServedChain.{asked_group, chain, content, first, first_meets, first_place, register, root, second, second_meets, second_place, sender, sent_packet, third, third_meets, third_place}, Words.{address, unicast}, StreamChain.{RegisteredPacketIsServed, NothingEndsStream, SecondRouterBegins, BothRoutersPass, asked_then, second_then, receivers, trees, climb, climbed, later, way}}, proofs.OnLiterals.machine_on_literals}
 use Rattle.pim_model.{specs.{Limits.config_test, Network.{network_ran, station_at, frame_at}, Sets.prunes, State.State}}
 use Rattle.law_streams.{specs.{Networks.events_in, Joins.join_packet, Ways.{Place, state_of, CanTake, IsGroup}, Roots.{IsBrought, IsRegister}, Passing.{Receiver, Tree, any_ends_passing, ends_passing, has_expired, has_moved, is_lost, membership_ends, takes_effect}, Climbing.{CanStream, join_frame}, Streams.{PassesAt, later_place}, StreamRoots.{Sends, any_ends_sending, ends_sending}}, proofs.{Networks.runs_alone, Begins.join_begins_stream, Passing.{none_ends, stays_settled}, Streams.later_stand, StreamRoots.{each_of_stream_is_served, each_register_is_brought, none_ends_sending}}}
 use Rattle.law_settled.{specs.Ready.IsSettled, proofs.Steps.run_is_settled}
@@ -61,8 +61,8 @@ second_passes = record {
   up_linked = refl;
 }
 
-pub way_streams : WayStreams
-way_streams = (first_passes, (second_passes, tt))
+pub both_routers_pass : BothRoutersPass
+both_routers_pass = (first_passes, (second_passes, tt))
 
 first_goes_on : any_ends_passing Tree.Shared Receiver.Host (state_of one) (events_in 0 climbed later) asked_group sender 1 0 ≡ false
 unfolding machine_on_literals events_in network_ran any_ends_passing ends_passing has_expired has_moved is_lost membership_ends join_packet takes_effect prunes
@@ -72,8 +72,8 @@ second_goes_on : any_ends_passing Tree.Shared Receiver.Router (state_of two) (ev
 unfolding machine_on_literals events_in network_ran any_ends_passing ends_passing has_expired has_moved is_lost membership_ends join_packet takes_effect prunes
 second_goes_on = refl
 
-pub none_ends_it : NoneEnds
-none_ends_it = (
+pub nothing_ends_stream : NothingEndsStream
+nothing_ends_stream = (
   none_ends Tree.Shared Receiver.Host (state_of one) (events_in 0 climbed later) asked_group sender 1 0 first_goes_on,
   (none_ends Tree.Shared Receiver.Router (state_of two) (events_in 1 climbed later) asked_group sender 1 0 second_goes_on, tt),
 )
@@ -135,15 +135,15 @@ brought : IsBrought end_state (unicast register) asked_group sender 0 content (1
 unfolding machine_on_literals events_in network_ran join_packet
 brought = each_register_is_brought end_state asked_group root sender 0 0 (1 + length way) register content refl refl refl refl refl is_register
 
-pub next_is_served : NextIsServed
+pub registered_packet_is_served : RegisteredPacketIsServed
 unfolding machine_on_literals
-next_is_served =
+registered_packet_is_served =
     each_of_stream_is_served trees receivers climbed later asked_group sender 3 1 content last way (unicast register) refl refl
-    (lit≤ tt) third_sends refl way_streams
+    (lit≤ tt) third_sends refl both_routers_pass
     (later_stand chain climb (third_place ∷ first_place ∷ second_place ∷ []) (refl, (refl, (refl, tt))))
     ((refl, (refl, tt)), ((refl, tt), (tt, tt)))
     (none_ends_sending (state_of last) (events_in 2 climbed later) asked_group sender 0 third_goes_on)
-    none_ends_it brought
+    nothing_ends_stream brought
 
 -- ---- the second router from its Join on
 
@@ -181,8 +181,8 @@ the_frame : frame_at (network_ran chain asked_then).1 6 ≡ Some (join_frame ask
 unfolding machine_on_literals network_ran join_packet
 the_frame = refl
 
-pub second_begins : SecondBegins
+pub second_router_begins : SecondRouterBegins
 unfolding station_at
-second_begins state is =
+second_router_begins state is =
     join_begins_stream asked_group root (address 10 0 1 1) (address 10 0 1 2) 1 sender 6 second_then (network_ran chain asked_then).1
     is_group takes_it can_stream ((runs_alone 1 asked_then chain).stands (second_place).station refl) the_frame state is

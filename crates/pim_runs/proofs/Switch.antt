@@ -1,6 +1,6 @@
 -- The premises, computed.
 use Rattle.std.{proofs.Common.{◌≡◌, [], Ok, false, true, refl, lit≤, ℕ}}
-use Rattle.pim_runs.{specs.{ServedChain.{asked_group, sender}, Switch.{Switches, asked, first_on_source, meets, on_shared, on_source, still_shared, switched, switching}}, proofs.OnLiterals.machine_on_literals}
+use Rattle.pim_runs.{specs.{ServedChain.{asked_group, sender}, Switch.{StreamChangesTree, asked, first_on_source, meets, on_shared, on_source, still_shared, switched, switching}}, proofs.OnLiterals.machine_on_literals}
 use Rattle.pim_model.{specs.Limits.config_test}
 use Rattle.law_settled.{specs.Ready.IsSettled, proofs.Steps.{run_is_settled, step_is_settled}}
 use Rattle.law_streams.{specs.Passing.{Passes, Receiver, Tree, any_ends_passing, ends_passing, has_expired, has_moved, is_lost, membership_ends}, proofs.Passing.{none_ends, stays_settled}}
@@ -46,8 +46,8 @@ goes_on : any_ends_passing Tree.Source Receiver.Host switched on_source asked_gr
 unfolding machine_on_literals any_ends_passing ends_passing has_expired has_moved is_lost membership_ends
 goes_on = refl
 
-pub switches : Switches
-switches = record {
+pub stream_changes_tree : StreamChangesTree
+stream_changes_tree = record {
   shared = shared;
   stays = none_ends Tree.Shared Receiver.Host asked on_shared asked_group sender 1 0 stays;
   ends = ends;

@@ -61,8 +61,8 @@ first_at_end =
     unwrap_or (station_at (network_ran three shares).1 0) (station (3 ∷ 1 ∷ []) first first_asked)
 
 -- The first router sends its own Join no sooner than 66 seconds, with the draw of 9 ms more, after it saw the other one's.
-abbrev pub JoinIsHeldBack : Type 0
-JoinIsHeldBack = row_at (first_at_end.state).join_timers (join_key joined 0 asked_group) ≡ Some (record { end = 127009 })
+abbrev pub JoinIsSuppressed : Type 0
+JoinIsSuppressed = row_at (first_at_end.state).join_timers (join_key joined 0 asked_group) ≡ Some (record { end = 127009 })
 
 -- yet the second holds what it joins, all the while
 abbrev pub SharedStaysHeld : Type 0

@@ -49,6 +49,6 @@ CauseHasOldNumber =
     × (has_cause (past_given [] (opening with_one_before) without_it) 0 1 asked_group sender ≡ false)
 
 -- so the copy is asked for
-abbrev pub PlacedIsAsked : Type 0
-PlacedIsAsked = CopiesAreAsked (past_given [] (opening with_one_before) without_it)
+abbrev pub PlacedCopyIsAskedFor : Type 0
+PlacedCopyIsAskedFor = CopiesAreAsked (past_given [] (opening with_one_before) without_it)
     (record { before = left; event = frame 1 sent_packet }) (outcome_of (step left (frame 1 sent_packet)))

@@ -28,8 +28,8 @@ abbrev pub receivers : ℕ → Receiver
 receivers zero = Receiver.Host
 receivers (suc r) = Receiver.Router
 
-abbrev pub WayStreams : Type 0
-WayStreams = IsStreamed trees receivers asked_group sender 3 way
+abbrev pub BothRoutersPass : Type 0
+BothRoutersPass = IsStreamed trees receivers asked_group sender 3 way
 
 -- a packet of the source comes to the RP in a Register, and its copies come to the second and to the first router; each
 -- is the last frame that was sent
@@ -58,12 +58,12 @@ sooner = packet_comes climbed ++ all_at 90000
 abbrev pub later : List Move
 later = sooner ++ (packet_comes (network_ran climbed sooner).1 ++ (asked_again ++ all_at 290000))
 
-abbrev pub NoneEnds : Type 0
-NoneEnds = NoneEndsStream trees receivers asked_group sender climbed later way
+abbrev pub NothingEndsStream : Type 0
+NothingEndsStream = NoneEndsStream trees receivers asked_group sender climbed later way
 
 -- The next packet of the stream, in a Register, comes down to the host's link, where its TTL is 1.
-abbrev pub NextIsServed : Type 0
-NextIsServed =
+abbrev pub RegisteredPacketIsServed : Type 0
+RegisteredPacketIsServed =
     IsFlowed (moved (network_ran climbed later).1 (At 2 (unicast register))).1 asked_group sender 3 content 1 way
 
 -- the second router as the Join finds it, two seconds after the report
@@ -74,7 +74,7 @@ abbrev pub second_then : Place
 second_then = later_place chain asked_then second_place
 
 -- After the Join the router passes the stream.
-abbrev pub SecondBegins : Type 0
-SecondBegins = (state : State)
+abbrev pub SecondRouterBegins : Type 0
+SecondRouterBegins = (state : State)
     → station_at (delivered (network_ran chain asked_then).1 second_then 6) 1 ≡ Some (became second_then state).station
     → Passes Tree.Shared Receiver.Router state asked_group sender 1 0

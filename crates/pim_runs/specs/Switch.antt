@@ -41,7 +41,7 @@ abbrev pub on_source : List Event
 on_source = frame 2 sent_packet ∷ advance 60000 ∷ frame 1 sent_packet ∷ frame 2 sent_packet ∷ advance 100000 ∷ []
 
 -- until SPTbit the stream passes from the shared tree, which that packet ends, and then from the source's
-pub record Switches : Type 0 where
+pub record StreamChangesTree : Type 0 where
   pub shared : Passes Tree.Shared Receiver.Host asked asked_group sender 1 0
   pub stays : NoneEndsPassing Tree.Shared Receiver.Host asked on_shared asked_group sender 1 0
   pub ends : ends_passing Tree.Shared Receiver.Host still_shared first_on_source asked_group sender 1 0 ≡ true

@@ -1,7 +1,7 @@
 //! A network that meets the premises of the laws of Joins and Hellos in time, computed by the kernel.
 ghost use Rattle.pim_runs.specs.HellosInTime.{HellosAreInTime, NeighbourStays, OneIsDr};
 ghost use Rattle.pim_runs.specs.InTime.{JoinStaysHeld, JoinsAreInTime, StreamGoesOn};
-ghost use Rattle.pim_runs.specs.OnLink.{JoinIsOverheardInTime, JoinIsHeldBack, SharedStaysHeld};
+ghost use Rattle.pim_runs.specs.OnLink.{JoinIsOverheardInTime, JoinIsSuppressed, SharedStaysHeld};
 ghost use Rattle.pim_runs.specs.WayInTime.{ChainJoinsInTime, WayStaysHeld};
 
 /// The Join of the first router of the chain is repeated in time, move after move.
@@ -9,12 +9,12 @@ pub fn joins_are_in_time()
     ensures { JoinsAreInTime }
 {}
 
-/// So the second router holds it all the while.
+/// The second router of the chain holds the first one's repeated Join all the while.
 pub fn join_stays_held()
     ensures { JoinStaysHeld }
 {}
 
-/// And so it passes the stream to the first all the while.
+/// The second router of the chain passes the stream to the first all the while.
 pub fn stream_goes_on()
     ensures { StreamGoesOn }
 {}
@@ -24,12 +24,12 @@ pub fn join_is_overheard_in_time()
     ensures { JoinIsOverheardInTime }
 {}
 
-/// So the other holds its own Join back.
-pub fn join_is_held_back()
-    ensures { JoinIsHeldBack }
+/// Of two routers on a link the one that sees the other's Join holds its own back.
+pub fn join_is_suppressed()
+    ensures { JoinIsSuppressed }
 {}
 
-/// And yet the third holds what it joins, all the while.
+/// The router above two on a link holds what both join, all the while, though one holds its Join back.
 pub fn shared_stays_held()
     ensures { SharedStaysHeld }
 {}
@@ -39,7 +39,7 @@ pub fn chain_joins_in_time()
     ensures { ChainJoinsInTime }
 {}
 
-/// So each router above holds the group all the while.
+/// Of the chain each router above another that joins holds the group all the while.
 pub fn way_stays_held()
     ensures { WayStaysHeld }
 {}
@@ -49,12 +49,12 @@ pub fn hellos_are_in_time()
     ensures { HellosAreInTime }
 {}
 
-/// So the next has it as a neighbour all the while.
+/// The next router of the chain has the first as a neighbour all the while.
 pub fn neighbour_stays()
     ensures { NeighbourStays }
 {}
 
-/// The two know each other alone, so that one of them is the DR of their link.
+/// Two routers of a link that know each other alone have one of them as its DR.
 pub fn one_is_dr()
     ensures { OneIsDr }
 {}

@@ -6,7 +6,7 @@ pub fn member_answers()
     ensures { MemberAnswers }
 {}
 
-/// Its record is there after more than 300 s.
+/// The record of a host that answers each query is there after more than 300 s.
 pub fn member_is_kept()
     ensures { MemberIsKept }
 {}
