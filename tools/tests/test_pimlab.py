@@ -82,14 +82,14 @@ class Called(unittest.TestCase):
         """A run that is cut in two, its second part begun in the state saved after the first, ends as the whole run."""
         text = (stored.DATA / "to_the_shortest_path_tree.toml").read_text()
         head, *moves = text.split("[[move]]")
-        parts = [head + "".join("[[move]]" + move for move in part) for part in (moves, moves[:7], moves[7:])]
+        parts = [head + "".join("[[move]]" + move for move in part) for part in (moves, moves[:8], moves[8:])]
         with tempfile.TemporaryDirectory() as room:
             whole, first, last = (f"{room}/{name}" for name in ("whole", "first", "last"))
             _, lines, _ = called("run", "-", "--save", f"r={whole}", input=parts[0].encode())
             called("run", "-", "--save", f"r={first}", input=parts[1].encode())
             said = called("run", "-", "--from", f"r={first}", "--save", f"r={last}", input=parts[2].encode())
             # The packet and the move are counted anew.
-            wanted = lines[lines.index(b"move 8 "):].replace(b"move 8 ", b"move 1 ").replace(b"copy 8 ", b"copy 1 ")
+            wanted = lines[lines.index(b"move 9 "):].replace(b"move 9 ", b"move 1 ").replace(b"copy 10 ", b"copy 1 ")
             self.assertEqual(said, (0, wanted, b""))
             self.assertEqual(Path(last).read_bytes(), Path(whole).read_bytes())
             self.assertNotEqual(Path(first).read_bytes(), Path(whole).read_bytes())

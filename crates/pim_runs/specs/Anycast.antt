@@ -1,10 +1,10 @@
--- Two RPs that share 10.9.9.9. A DR registers a source with the first; and a source is on the first one's own link.
-use Rattle.std.{specs.Prelude.{List, [], false, map, suc, true, zero, ℕ, ◌∷◌, ◌≡◌}}
+-- Two RPs that share 10.9.9.9. A DR registers a source with the first.
+use Rattle.std.{specs.Prelude.{List, [], false, suc, true, zero, ℕ, ◌∷◌, ◌≡◌}}
 use Rattle.pim_ip.{specs.{Addr.addr, declared.addr.Addr.Addr}}
-use Rattle.pim_types.{specs.declared.{config.{Config.Config, RpRange.RpRange}, event.Event.Event, outcome.Emission.Emission}}
-use Rattle.pim_model.{specs.{Network.{At, DeliverUnicast, Move, Network, network}, Registers.keepalive_period, State.{State, addressing_of, opening}, Step.state_after}}
-use Rattle.pim_anycast.{specs.{Joined.joined, Members.{AlwaysBehind, KnowsBetween, moved_behind}, Passed.passed, Sets.are_rp_sets, declared.{front.Passed.Passed, set.RpSet.RpSet}}}
-use Rattle.pim_runs.{specs.{Base.{base, interface, prefix, rp_for}, Words.{address, advance, frame, hex, to, unicast, unicasts, up}}}
+use Rattle.pim_types.{specs.declared.{config.{Config.Config, RpRange.RpRange}, event.Event.Event}}
+use Rattle.pim_model.{specs.{Network.{At, DeliverUnicast, Move, Network, network}, Registers.keepalive_period, State.addressing_of}}
+use Rattle.pim_anycast.{specs.{Members.{AlwaysBehind, KnowsBetween, moved_behind}, Sets.are_rp_sets, declared.set.RpSet.RpSet}}
+use Rattle.pim_runs.{specs.{Base.{base, interface, prefix, rp_for}, Words.{address, advance, hex, unicast}}}
 
 abbrev pub shared : ℕ
 shared = address 10 9 9 9
@@ -66,68 +66,11 @@ SetsAreTested =
     × dont_fit (set_of first_own (addr (address 239 1 1 1) ∷ []) ∷ [])
     × dont_fit (first_set ∷ set_of (address 10 0 12 2) (addr second_own ∷ []) ∷ [])
 
--- ---- packets
+-- ---- in a network
 
 -- a Null-Register of (10.1.0.50, 239.1.1.1) from a DR, 10.0.12.1, to the shared address, with TTL 62
 abbrev pub register : List ℕ
 register = hex "45c00030000000003e6752950a000c010a09090921009eff4000000045000014000000000167bf4e0a010032ef010101"
-
--- its copy from 10.255.0.1 to 10.255.0.2, with TTL 61
-abbrev pub copy : List ℕ
-copy = hex "45c00030000000003d6766a70aff00010aff000221009eff4000000045000014000000000167bf4e0a010032ef010101"
-
--- the copy as one to the shared address
-abbrev pub counted : List ℕ
-counted = hex "45c00030000000003d675e960aff00010a09090921009eff4000000045000014000000000167bf4e0a010032ef010101"
-
-abbrev pub RegisterGoesOn : Type 0
-RegisterGoesOn =
-    (passed (first_set ∷ []) ranges register ≡ Passed.Copied (to second_own copy ∷ []))
-    × (passed (second_set ∷ []) ranges copy ≡ Passed.Counted counted)
-
--- a Null-Register from 10.255.0.9, which is in no set, to 10.255.0.1
-abbrev pub from_stranger : List ℕ
-from_stranger = hex "45c00030000000003c6767a00aff00090aff000121009eff4000000045000014000000000167bf4e0a010032ef010101"
-
--- one from 10.255.0.2 to the shared address
-abbrev pub to_shared : List ℕ
-to_shared = hex "45c00030000000003c675f950aff00020a09090921009eff4000000045000014000000000167bf4e0a010032ef010101"
-
--- a Register-Stop of (10.1.0.50, 239.1.1.1) from 10.255.0.2 to 10.255.0.1
-abbrev pub stop : List ℕ
-stop = hex "45c00026000000003c6767b10aff00020aff00012200e1a901000020ef01010101000a010032"
-
-abbrev pub OthersPass : Type 0
-OthersPass =
-    (passed (first_set ∷ []) ranges from_stranger ≡ Passed.AsItCame)
-    × (passed (first_set ∷ []) ranges to_shared ≡ Passed.AsItCame)
-    × (passed (first_set ∷ []) ranges stop ≡ Passed.AsItCame)
-    × (passed (first_set ∷ []) [] register ≡ Passed.AsItCame)
-
--- ---- a source on the first one's own link
-
--- UDP from 10.0.12.50 to 239.1.1.1
-abbrev pub packet : List ℕ
-packet = hex "4500001f000000001011a49a0a000c32ef010101138c138c000b00006f6e65"
-
--- the Null-Register of (10.0.12.50, 239.1.1.1) from 10.255.0.1 to 10.255.0.2
-abbrev pub announcement : List ℕ
-announcement = hex "45c0003000000000406763a70aff00010aff000221009eff4000000045000014000000000167b34f0a000c32ef010101"
-
-abbrev pub with_link : State
-with_link = state_after (opening first) (up 7 0 ∷ [])
-
-abbrev pub announced : List Emission
-announced = to second_own announcement ∷ []
-
--- at the source's first packet, and then each minute
-abbrev pub SourceIsAnnounced : Type 0
-SourceIsAnnounced =
-    map unicasts (joined (first_set ∷ []) with_link
-    (frame 0 packet ∷ frame 0 packet ∷ advance 59999 ∷ advance 60000 ∷ advance 119999 ∷ advance 120000 ∷ [])).0
-    ≡ announced ∷ [] ∷ [] ∷ announced ∷ [] ∷ announced ∷ []
-
--- ---- in a network
 
 abbrev pub sets : ℕ → List RpSet
 sets zero = first_set ∷ []

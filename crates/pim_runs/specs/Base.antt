@@ -1,6 +1,6 @@
 -- The router of the worked runs: interfaces 0, 1 and 2 are up, 10.0.0.1 is a neighbour on 0 and 10.0.1.2 on
 -- 1, and the routes to the RP and to the sources go by 10.0.0.1.
-use Rattle.std.{specs.Prelude.{List, [], ℕ, ◌++◌, ◌∷◌}}
+use Rattle.std.{specs.Prelude.{List, [], ℕ, ◌∷◌}}
 use Rattle.pim_ip.{specs.{declared.addr.Prefix.Prefix, Addr.addr}}
 use Rattle.pim_types.{specs.declared.{config.{Config.Config, InterfaceConfig.InterfaceConfig, Route.Route, RpRange.RpRange, SptSwitch.SptSwitch}, event.Event.Event}}
 use Rattle.pim_model.{specs.{State.{State, opening}, Step.state_after}}
@@ -75,11 +75,8 @@ base = record {
 
 -- ---- the opening
 
-abbrev pub all_up : List Event
-all_up = up 7 0 ∷ up 7 1 ∷ up 7 2 ∷ []
-
 abbrev pub opening_events : List Event
-opening_events = all_up ++ frame 0 hello_of_10_0_0_1 ∷ frame 1 hello_of_10_0_1_2 ∷ []
+opening_events = up 7 0 ∷ up 7 1 ∷ up 7 2 ∷ frame 0 hello_of_10_0_0_1 ∷ frame 1 hello_of_10_0_1_2 ∷ []
 
 -- a router of another configuration after the same events
 abbrev pub opened_with : Config → State

@@ -1,8 +1,10 @@
 -- Worked runs of the forwarding cache: what its rows answer, and which packets they decide.
-use Rattle.std.{specs.Prelude.{Bool, List, None, Option, Some, [], false, map, option_map, true, ℕ, ◌+◌, ◌∷◌, ◌≡◌}}
-use Rattle.pim_rows.{specs.{declared.table.Table.Table, Printed.rows}}
+use Rattle.std.{specs.Prelude.{Bool, List, None, Option, Some, [], false, map, option_map, true, ℕ, ◌++◌, ◌+◌, ◌∷◌, ◌≡◌}}
+use Rattle.pim_ip.{specs.Addr.addr}
+use Rattle.pim_types.{specs.declared.config.{Config.Config, Route.Route}}
+use Rattle.pim_rows.{specs.{declared.table.{Row.Row, Table.Table}, Printed.rows}}
 use Rattle.pim_model.{specs.{Cache.{Answers, Plain, cached, plain}, Sets.members, State.State, Step.{run, state_after}, Tables.below}}
-use Rattle.pim_runs.{specs.{Base.{after, group, host, opened_with, source}, Data.{active, joined_and_sent, register_stopped}, Packets.{allow_source, copy_on_1, data_from, hello_of_10_0_2_9, host_packet, join_host_forever, join_source, join_source_200, join_source_forever, packet, prune_source_up, to_exclude}, Routes.{rp_on_1, with_longer_route}, Words.{advance, done_with_copies, down, frame, join_prunes, routes_to}}}
+use Rattle.pim_runs.{specs.{Base.{after, base, base_routes, group, host, opened_with, prefix, route_by, rp_network, source, source_network}, Packets.{allow_source, copy_on_1, data_from, hello_of_10_0_2_9, host_packet, join_host_forever, join_source, join_source_200, join_source_forever, packet, prune_source_up, register_stop_received, to_exclude}, Words.{address, advance, done_with_copies, down, frame, join_prunes, routes_to, unicast_drawn}}}
 
 -- ---- what is looked at
 
@@ -59,6 +61,30 @@ not_plain = Some None
 abbrev pub no_row : Option (Option Way)
 no_row = None
 
+-- ---- states
+
+-- the printed row of a source with SPTbit and without a register
+abbrev pub active : ℕ → Option ℕ → Row
+active src keepalive = Row.Active (addr group) (addr src) keepalive true None
+
+-- the source is joined on 1, and a packet of it came
+abbrev pub joined_and_sent : State
+joined_and_sent = after (frame 1 join_source ∷ frame 0 packet ∷ [])
+
+-- a host was registered, and the RP stopped that
+abbrev pub register_stopped : State
+register_stopped = after (frame 2 host_packet ∷ unicast_drawn 60000 register_stop_received ∷ [])
+
+-- the base, with the route to the RP over 1
+abbrev pub rp_on_1 : Config
+rp_on_1 = record base {
+  routes = route_by 1 (address 10 0 1 2) rp_network ∷ route_by 0 (address 10 0 0 1) source_network ∷ [];
+}
+
+-- the base's routes, and one to 10.0.3.128/25 over 2
+abbrev pub with_longer_route : List Route
+with_longer_route = base_routes ++ route_by 2 (address 10 0 2 9) (prefix (address 10 0 3 128) 25) ∷ []
+
 -- ---- rows
 
 -- A source that is joined on 1 has a row once it sends; its next packet is plain, and leaves there. Another source of
@@ -79,7 +105,7 @@ abbrev pub PlainPacketMovesItsTimer : Type 0
 PlainPacketMovesItsTimer =
     (decided_of a_second_later source 0 64 ≡ goes true (1 ∷ []))
     × (run a_second_later (frame 0 packet ∷ []) ≡ done_with_copies 1 (copy_on_1 ∷ []) ∷ [])
-    × (rows (state_after a_second_later (frame 0 packet ∷ [])) Table.Active ≡ active source (Some 211000) true None ∷ [])
+    × (rows (state_after a_second_later (frame 0 packet ∷ [])) Table.Active ≡ active source (Some 211000) ∷ [])
 
 -- joined on 1 without an end, sent once, and silent until the keepalive timer ended
 abbrev pub joined_and_silent : State
@@ -88,11 +114,11 @@ joined_and_silent = after (frame 1 join_source_forever ∷ frame 0 packet ∷ ad
 -- A plain packet may also start the timer of a source that has only its SPTbit.
 abbrev pub PlainPacketStartsTheTimer : Type 0
 PlainPacketStartsTheTimer =
-    (rows joined_and_silent Table.Active ≡ active source None true None ∷ [])
+    (rows joined_and_silent Table.Active ≡ active source None ∷ [])
     × (seen_of joined_and_silent source ≡ seen_row (1 ∷ []) 0 true)
     × (decided_of joined_and_silent source 0 64 ≡ goes true (1 ∷ []))
     × (rows (state_after joined_and_silent (frame 0 packet ∷ [])) Table.Active
-    ≡ active source (Some 420000) true None ∷ [])
+    ≡ active source (Some 420000) ∷ [])
 
 -- packets of 10.0.3.6 to 10.0.3.205, which nobody joined
 abbrev pub flooded : State
@@ -101,7 +127,7 @@ flooded = state_after joined_and_sent (map (λ n. frame 0 (data_from (n + 6))) (
 -- Other events make no row, and the one row is unchanged.
 abbrev pub OthersMakeNoRow : Type 0
 OthersMakeNoRow =
-    (rows flooded Table.Active ≡ active source (Some 210000) true None ∷ [])
+    (rows flooded Table.Active ≡ active source (Some 210000) ∷ [])
     × (seen_of flooded source ≡ seen_row (1 ∷ []) 0 true)
     × (decided_of flooded source 0 64 ≡ goes true (1 ∷ []))
 
@@ -166,7 +192,7 @@ silent_host = after (frame 1 join_host_forever ∷ frame 2 host_packet ∷ advan
 -- The packet that opens the register tunnel isn't plain: the source has a row by its SPTbit alone.
 abbrev pub OpeningIsNotPlain : Type 0
 OpeningIsNotPlain =
-    (rows silent_host Table.Active ≡ active host None true None ∷ [])
+    (rows silent_host Table.Active ≡ active host None ∷ [])
     × (seen_of silent_host host ≡ seen_row (1 ∷ []) 2 true)
     × (decided_of silent_host host 2 64 ≡ not_plain)
     × (decided_of silent_host host 2 1 ≡ not_plain)

@@ -2,7 +2,7 @@
 use Rattle.std.{specs.Prelude.{Bool, List, [], false, length, map, true, ℕ, ◌*◌, ◌++◌, ◌+◌, ◌∷◌, ◌≡◌}}
 use Rattle.pim_types.{specs.{declared.{event.Event.Event, fact.Key.Key}, Keys.source_key}}
 use Rattle.pim_model.{specs.{Reach.{event_reach, keeps_neighbours}, State.State, Step.{state_after, step}, Tables.below}}
-use Rattle.pim_runs.{specs.{Base.{after, base_routes, group, source}, Cached.{asked_and_sent, two_sent, watched_source}, Data.joined_and_sent, Packets.{data_from, hello_for_105_s, hello_of_10_0_2_9, join_source, join_source_of, packet, prune_source, to_exclude}, Routes.{other_rp, with_longer_route}, Words.{advance, down, frame, routes_to}}}
+use Rattle.pim_runs.{specs.{Base.{after, all_groups, base_routes, group, rp_for, source}, Cached.{asked_and_sent, joined_and_sent, two_sent, watched_source, with_longer_route}, Packets.{data_from, hello_for_105_s, hello_of_10_0_2_9, join_source, join_source_of, packet, prune_source, to_exclude}, Words.{address, advance, down, frame, routes_to, rps_to}}}
 
 -- ---- what is looked at
 
@@ -71,6 +71,10 @@ TimeReachesOnceAFiring =
     × (stays_around joined_and_sent (advance 210000) ≡ true)
 
 -- ---- routes, neighbours, interfaces
+
+-- 10.9.9.8 becomes the RP of all groups
+abbrev pub other_rp : Event
+other_rp = rps_to (rp_for all_groups (address 10 9 9 8) ∷ [])
 
 -- A longer route reaches the sources that it takes over, and the same routes again none.
 abbrev pub LongerRouteReachesOneSource : Type 0

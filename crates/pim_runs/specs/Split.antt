@@ -3,7 +3,7 @@ use Rattle.std.{specs.Prelude.{Bool, List, None, Option, Some, [], map, option_m
 use Rattle.pim_types.{specs.{declared.{config.SptSwitch.SptSwitch, event.Event.Event, outcome.Outcome.Outcome}, Keys.source_key}}
 use Rattle.pim_model.{specs.{Sets.members, State.State, Step.state_after}}
 use Rattle.law_events.{specs.Named.event_named}
-use Rattle.pim_runs.{specs.{Base.{after, base, group, host, opened_with, source}, Data.joined_and_sent, Packets.{copy_on_1, copy_on_2, hello_of_10_0_2_9, host_packet, packet, to_exclude}, Words.{advance, done_with, done_with_copies, down, frame}}}
+use Rattle.pim_runs.{specs.{Base.{after, base, group, host, opened_with, source}, Cached.joined_and_sent, Packets.{copy_on_1, copy_on_2, hello_of_10_0_2_9, host_packet, packet, to_exclude}, Words.{advance, done_with, done_with_copies, down, frame}}}
 use Rattle.law_plane.{specs.{Offload.{Handling, Row, handled, told}, Split.{Notice, Split, caught_up, split_ran, whole}}}
 
 -- once the first Hellos have left

@@ -1,7 +1,6 @@
 -- Short names for bytes, addresses, events and outcomes.
 use Prim.{Native.String.String}
-use Rattle.std.{specs.Prelude.{Bool, Err, List, Ok, [], codes, false, filter, slice_index, true, ℕ, ◌&&◌, ◌*◌, ◌+◌, ◌==◌}}
-use Rattle.pim_ip.{specs.{declared.refusal.Refusal.Refusal, Addr.addr}}
+use Rattle.std.{specs.Prelude.{Bool, List, Ok, codes, false, filter, slice_index, ℕ, ◌&&◌, ◌*◌, ◌+◌, ◌==◌}}
 use Rattle.pim_types.{specs.declared.{config.{Route.Route, RpRange.RpRange}, event.{Event.Event, EventKind.EventKind}, outcome.{Emission.Emission, Outcome.Outcome, Verdict.Verdict}}}
 use Rattle.pim_runs.{specs.Transcript.from_hex}
 
@@ -47,9 +46,6 @@ rps_to rps = record { draw = 0; kind = EventKind.Rps rps }
 abbrev pub on : ℕ → List ℕ → Emission
 on i packet = Emission.Link (record { number = i }) packet
 
-abbrev pub to : ℕ → List ℕ → Emission
-to destination packet = Emission.Unicast (addr destination) packet
-
 -- ---- outcomes
 
 abbrev pub done_with_copies : ℕ → List Emission → Outcome
@@ -57,9 +53,6 @@ done_with_copies copies emissions = record { answer = Ok Verdict.Done; emissions
 
 abbrev pub done_with : List Emission → Outcome
 done_with emissions = done_with_copies 0 emissions
-
-abbrev pub refused : Refusal → Outcome
-refused refusal = record { answer = Err refusal; emissions = []; copies = 0 }
 
 -- ---- what is looked at where timers send other things as well
 
@@ -71,19 +64,9 @@ is_pim_of_type type (Emission.Unicast destination packet) = false
 abbrev pub join_prunes : Outcome → List Emission
 join_prunes o = filter (is_pim_of_type 3) o.emissions
 
-abbrev pub asserts : Outcome → List Emission
-asserts o = filter (is_pim_of_type 5) o.emissions
-
 abbrev pub is_igmp_on : ℕ → Emission → Bool
 is_igmp_on i (Emission.Link on packet) = (on.number == i) && (slice_index packet 9 == 2)
 is_igmp_on i (Emission.Unicast destination packet) = false
 
 abbrev pub queries_on : ℕ → Outcome → List Emission
 queries_on i o = filter (is_igmp_on i) o.emissions
-
-abbrev pub is_sent_to : Emission → Bool
-is_sent_to (Emission.Link i packet) = false
-is_sent_to (Emission.Unicast destination packet) = true
-
-abbrev pub unicasts : Outcome → List Emission
-unicasts o = filter is_sent_to o.emissions
