@@ -73,7 +73,7 @@ SPOILS = [
         "OTHER"),
     Spoil("linux/src/bfd.rs", "const VERSION: u8 = 1;", "const VERSION : u8 = 1;", "linux_layout", "VERSION"),
     Spoil("linux/examples/stream.rs", "fn main(", "fn mainn(", "linux_lint", "main"),
-    Spoil("linux/viqeshord.toml", "[[rp]]", "[[rps]]", "linux", "the_file_of_the_package_is_read"),
+    Spoil("linux/viqeshord.toml", "[[rp]]\n", "[[rps]]\n", "linux", "the_file_of_the_package_is_read"),
     Spoil("linux/viqeshord.bash", "complete ", "fi; complete ", "lint", "viqeshord.bash"),
     Spoil("linux/trials/network.py", "ROUTES = {", "ROADS = {", "lint", "ROUTES"),
     # The tools: one that others use, one with a program of its own, a measurement, a script.
