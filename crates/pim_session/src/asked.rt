@@ -1,12 +1,11 @@
 //! The router as what stands before it asks it.
-ghost use Rattle.std.specs.List.{list_any};
-ghost use Rattle.std.specs.Prelude.{◌≡◌, ◌==◌};
+ghost use Rattle.std.specs.Prelude.{◌≡◌};
 
 use igmp_older::Querier;
 use pim_anycast::{OwnAddresses, Rendezvous};
 use pim_router::Router;
 use pim_types::fact::GroupRecordRow;
-use pim_types::{Addr, Config, IfaceId, SourceGroup};
+use pim_types::{Addr, IfaceId, SourceGroup};
 use std::alloc::{AllocError, Global};
 use std::marker::Model;
 
@@ -93,54 +92,5 @@ impl<'a> Rendezvous for Asked<'a> {
     #[tactic(auto, unfolding(pim_anycast::specs::Announced::is_local, pim_anycast::specs::Announced::local_keys))]
     fn local_sources(&self, alloc: Global) -> Result<Vec<SourceGroup>, AllocError> {
         self.router.local_sources(alloc)
-    }
-}
-
-/// A configuration whose addresses are asked for.
-#[derive(Drop)]
-pub(crate) struct Configured<'a> {
-    config: &'a Config,
-}
-
-impl<'a> Model for Configured<'a> {
-    ghost use Rattle.pim_types.specs.declared.config.Config.{Config};
-
-    ghost Value = { Config };
-
-    ghost view = { λ c. c.config.now };
-}
-
-impl<'a> Configured<'a> {
-    pub(crate) fn of(config: &'a Config) -> Configured<'a>
-        ensures { result ≡ config.now }
-    {
-        Configured { config }
-    }
-
-    // Whether the address is that of an interface.
-    fn is_of_interface(&self, address: Addr) -> bool
-        ensures { result ≡ list_any (λ c. c.address.bits == address.bits) self.now.interfaces }
-    {
-        let interfaces = self.config.interfaces.as_slice();
-        interfaces.iter().any(|own| own.address == address)
-    }
-
-    // Whether the address is one of those that are of no interface.
-    fn is_of_none(&self, address: Addr) -> bool
-        ensures { result ≡ list_any (λ own. own.bits == address.bits) self.now.addresses }
-    {
-        let addresses = self.config.addresses.as_slice();
-        addresses.iter().any(|own| *own == address)
-    }
-}
-
-impl<'a> OwnAddresses for Configured<'a> {
-    ghost use Rattle.pim_model.specs.State.{addressing_of};
-
-    ghost configured = { λ c. addressing_of c };
-
-    #[tactic(auto, unfolding(pim_model::specs::State::is_own_among))]
-    fn is_own(&self, address: Addr) -> bool {
-        self.is_of_interface(address) || self.is_of_none(address)
     }
 }

@@ -15,7 +15,6 @@ ghost use Rattle.pim_state.specs.declared.touched.Touched.{Touched as TouchedVal
 ghost use Rattle.std.specs.Prelude.{◌≡◌, ◌↔◌, [], Err, IfErr, IfOk, IfSome, IsOkUnless, IsTrue, None, Ok, OnErr, OnOk, Some};
 
 use super::Session;
-use crate::asked::Configured;
 use crate::behind::times_in;
 use crate::front::Front;
 use crate::refused::ReloadRefusal;
@@ -35,6 +34,7 @@ impl Session {
     /// sets of RPs don't fit is refused before all else, and a refusal changes nothing. While packets of the event before
     /// are untaken the answer is `Untaken`, and nothing changes. After a fault the rows are unchanged,
     /// and the session answers `Failed` from then on.
+    #[tactic(auto, unfolding(crate::specs::Shared::reload_tested))]
     pub fn reload_places(
         &mut self,
         alloc: Global,
@@ -75,7 +75,7 @@ impl Session {
         if self.has_untaken() {
             return Err(Stop::Untaken);
         }
-        if !self.anycast.fits(&Configured::of(config)) {
+        if !self.fits(config) {
             return Ok(Err(ReloadRefusal::SetsDontFit));
         }
         match reload(

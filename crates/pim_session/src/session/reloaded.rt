@@ -16,7 +16,6 @@ ghost use Rattle.pim_state.specs.declared.touched.Touched.{Touched as TouchedVal
 ghost use Rattle.std.specs.Prelude.{◌≡◌, ◌↔◌, [], Err, IfErr, IfOk, IfSome, IsOkUnless, IsTrue, None, Ok, OnErr, OnOk, Some};
 
 use super::Session;
-use crate::asked::Configured;
 use crate::behind::times_in;
 use crate::front::Front;
 use crate::refused::ReloadRefusal;
@@ -34,6 +33,7 @@ impl Session {
     /// were read are dropped. A configuration whose addresses the sets of RPs don't fit is refused before all else, and a
     /// refusal changes nothing. While packets of the event before are untaken the answer is `Untaken`, and nothing changes. After a fault the rows are
     /// unchanged, and the session answers `Failed` from then on.
+    #[tactic(auto, unfolding(crate::specs::Shared::reload_tested))]
     pub fn reload(
         &mut self,
         alloc: Global,
@@ -73,7 +73,7 @@ impl Session {
         if self.has_untaken() {
             return Err(Stop::Untaken);
         }
-        if !self.anycast.fits(&Configured::of(config)) {
+        if !self.fits(config) {
             return Ok(Err(ReloadRefusal::SetsDontFit));
         }
         match reload(alloc, self.router.as_mut(), &mut self.front, draw, config) {

@@ -2,11 +2,12 @@
 ghost use Rattle.std.specs.Prelude.{◌≡◌, ◌↔◌, Err, IfErr, IfOk, IfSome, None, OnErr, OnOk, false, true};
 ghost use Rattle.pim_anycast.specs.Sets.{are_rp_sets};
 ghost use Rattle.pim_ip.specs.declared.fault.Fault.{Fault};
+ghost use Rattle.pim_model.specs.State.{addressing_of};
 
 use super::Session;
 use crate::asked::Asked;
 use pim_anycast::{Anycast, BadRpSet, RpSet};
-use pim_types::Fault;
+use pim_types::{Config, Fault};
 
 impl Session {
     /// Sets of which RPs that share an address the router is one from then on (RFC 4610), in place of those set before. Sets
@@ -36,6 +37,13 @@ impl Session {
             }
             Err(bad) => Ok(Err(bad)),
         }
+    }
+
+    /// Whether a router with the addresses of a configuration can have the sets.
+    pub(super) fn fits(&self, config: &Config) -> bool
+        ensures { result ≡ are_rp_sets (addressing_of config.now) self.now.sets }
+    {
+        self.anycast.fits(config)
     }
 
     /// The sets of RPs that share an address, of which the router is one, as they were set; none in a new session.

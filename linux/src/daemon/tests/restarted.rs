@@ -7,12 +7,12 @@ use crate::left::Left;
 const GROUP: Ipv4Addr = Ipv4Addr::new(239, 1, 1, 1);
 
 /// What a daemon leaves.
-pub fn left_by(daemon: &Daemon) -> (Left, Vec<u8>) {
+pub(super) fn left_by(daemon: &Daemon) -> (Left, Vec<u8>) {
     (daemon.left(), daemon.core.save().expect("it is saved"))
 }
 
 /// A machine as another one, of which no event waits and nothing was sent.
-pub fn same_machine(fake: &Fake) -> Rc<Fake> {
+pub(super) fn same_machine(fake: &Fake) -> Rc<Fake> {
     let other = Fake::default();
     other.now.set(fake.now.get());
     *other.addresses.borrow_mut() = fake.addresses.borrow().clone();
@@ -21,7 +21,7 @@ pub fn same_machine(fake: &Fake) -> Rc<Fake> {
     Rc::new(other)
 }
 
-pub fn resumed(settings: &str, fake: &Rc<Fake>, left: (Left, Vec<u8>), way: Way) -> Daemon {
+pub(super) fn resumed(settings: &str, fake: &Rc<Fake>, left: (Left, Vec<u8>), way: Way) -> Daemon {
     let settings = settings::read(settings).expect("they are in order");
     let kernel = Box::new(Handle(Rc::clone(fake)));
     let mut daemon = Daemon::resume(Path::new("none"), settings, kernel, (left.0, &left.1), way).expect("it goes on");

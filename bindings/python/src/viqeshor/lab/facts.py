@@ -68,6 +68,9 @@ MEANINGS = {
     "22": "the router has no interface of this number; they are counted from 0",
     "23": "the interface is down when the packet comes: an `up` is missing before, or the packet is lost on purpose",
     "24": "it needs more new facts than `limit` leaves room for, or is the Hello of a 65th neighbour on the interface",
+    "73": "the map of places has no line for an interface, names a place that the other configuration doesn't have, "
+          "or names one twice",
+    "74": "sets of RPs that share an address don't fit the router's addresses, or each other",
     "Own": "the packet's source is an address of the router, which hears itself",
     "NotForMe": "on a link: IGMP or data to no group, a Register or Register-Stop; as a unicast: for another router, "
                 "or not one of these two",
