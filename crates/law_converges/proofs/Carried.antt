@@ -138,7 +138,7 @@ pub record IsCarriedOn (d late : ℕ) (started : ℕ → ℕ) (t : Traffic) (cam
   pub since : (y : Member) → IsOne members y → first ≤ came y.router y.iface
   pub behind : (y : Member) → IsOne members y → came y.router y.iface ≤ length n.frames
 
-more_frames : (n : Network) (m : Move) → length n.frames ≤ length ((moved n m).1).frames
+pub more_frames : (n : Network) (m : Move) → length n.frames ≤ length ((moved n m).1).frames
 unfolding frame_at
 more_frames n m = go (length n.frames) refl
   where

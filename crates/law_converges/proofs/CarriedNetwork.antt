@@ -16,7 +16,7 @@ each_flat : {X Y : Type 0} (P : Y → Type 0) (f : X → List Y) (xs : List X) �
 each_flat P f [] e = tt
 each_flat P f (x ∷ xs) e = each_append P (f x) (flat_map f xs) e.0 (each_flat P f xs e.1)
 
-one_lan : (P : Lan → Type 0) (lans : List Lan) (a : Lan) → AllByRecursion P lans → IsOneLan lans a → P a
+pub one_lan : (P : Lan → Type 0) (lans : List Lan) (a : Lan) → AllByRecursion P lans → IsOneLan lans a → P a
 one_lan P [] a f none = absurd none
 one_lan P (b ∷ bs) a f (inl same) = subst P same f.0
 one_lan P (b ∷ bs) a f (inr later) = one_lan P bs a f.1 later

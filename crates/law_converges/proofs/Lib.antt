@@ -35,11 +35,15 @@ pub mod LinkRptOrder
 pub mod Past
 pub mod Carried
 pub mod Prompt
+pub mod OneCopy
+pub mod ComesOnce
+pub mod NothingElse
 pub mod CarriedLinks
 pub mod CarriedJoins
 pub mod CarriedPrunes
 pub mod Settles
 pub mod CarriedNetwork
+pub mod CarriedWays
 pub mod CarriedNetworkRun
 pub mod Tested
 pub mod HelloTests

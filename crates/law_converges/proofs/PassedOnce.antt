@@ -7,7 +7,7 @@ use Rattle.law_streams.{specs.{InTimeJoins.{Always, IsHeld, IsReady, Pair, Star}
 use Rattle.law_converges.{specs.{PassedOnce.{HeldIsPassedOnce, IsOnTree, IsPassedOnce}, Past.HoldsPast}, proofs.LinkJoins.first_of}
 
 module _ (rp g src up : ℕ) (c : Pair) where
-  passes : (n : Network) (st : Station) → station_at n c.upper ≡ Some st → IsReady c.upper n → IsOnTree g src up c n
+  pub passes : (n : Network) (st : Station) → station_at n c.upper ≡ Some st → IsReady c.upper n → IsOnTree g src up c n
       → IsHeld (Star rp) g c n → Passes Tree.Shared Receiver.Router st.state g src up c.down
   passes n st at ready tree held =
       subst (λ (z : Station). Passes Tree.Shared Receiver.Router z.state g src up c.down) (same_station tree.there at) (record {

@@ -18,6 +18,7 @@ pub mod LinkJoins
 pub mod LinkJoinsRun
 pub mod JoinedWays
 pub mod PassedOnce
+pub mod ComesOnce
 pub mod JoinedWaysRun
 pub mod LinkRpt
 pub mod LinkRptOrder
@@ -27,4 +28,5 @@ pub mod CarriedLinks
 pub mod CarriedPrunes
 pub mod Settles
 pub mod CarriedNetwork
+pub mod CarriedWays
 pub mod CarriedNetworkRun

@@ -12,3 +12,4 @@ pub mod networks;
 pub mod next_hops;
 pub mod overrides;
 pub mod runs;
+pub mod ways;

@@ -1,0 +1,194 @@
+-- Each packet of a source comes down a way exactly once: each router of it takes each frame of the link above once, and puts one copy
+-- of it on the link below (RFC 7761, 4.2).
+use Rattle.std.{specs.{List.{AllByRecursion, Contains}, Prelude.{List, Ok, Some, [], false, length, slice_get, true, ℕ, ◌*◌, ◌+◌, ◌<◌, ◌==◌, ◌∷◌, ◌≡◌, ◌≤◌, ◌⊎◌}}}
+use Rattle.pim_ip.{specs.Ipv4.{Packet, copy_text, ipv4_reading, is_link_local, is_multicast, protocol_igmp}}
+use Rattle.pim_types.{specs.declared.event.Event.Event}
+use Rattle.pim_model.{specs.{Cause.{done_as, packet_in}, Network.{Deliver, Move, Network, Station, event_of, frame_at, moved, network_ran, station_at}, Writing.on_link}}
+use Rattle.law_streams.{specs.{Copies.{copies_at, happens}, Flows.IsCarried as Carried, InTimeJoins.time_at, Passing.{Passes, Receiver, Tree}, Roots.IsBrought, StreamRoots.Sends}}
+use Rattle.law_converges.{specs.{Carried.{Arrivals, Carries, EachMove, IsSentBy, Traffic}, LinkDr.{IsOne, Member}, Past.{ArePast, HoldsPast}}}
+
+-- ---- a way
+
+-- a router of a way, with its interface on the link above, where the packets come in, and the one on the link below; they come on a
+-- tree, and go out for a router or for a host there
+pub record Forwarder : Type 0 where
+  pub self : Member
+  pub above : ℕ
+  pub down : ℕ
+  pub below : ℕ
+  pub tree : Tree
+  pub receiver : Receiver
+
+-- the router at the top of a way, at which the packets come, with its interface on the link below
+pub record Root : Type 0 where
+  pub router : ℕ
+  pub down : ℕ
+  pub below : ℕ
+
+-- a router has one interface on a link
+pub record HasOneOn (down link : ℕ) (st : Station) : Type 0 where
+  pub linked : slice_get st.links down ≡ Some link
+  pub single : (i : ℕ) → slice_get st.links i ≡ Some link → i ≡ down
+
+-- the root sends what comes to it on the link below
+pub record SendsDown (g src : ℕ) (root : Root) (n : Network) : Type 0 where
+  pub station : Station
+  pub there : station_at n root.router ≡ Some station
+  pub sends : Sends station.state g src root.down
+  pub below : HasOneOn root.down root.below station
+
+-- a router forwards each packet of the source from the link above to the link below
+pub record Forwards (g src : ℕ) (f : Forwarder) (n : Network) : Type 0 where
+  pub station : Station
+  pub there : station_at n (f.self).router ≡ Some station
+  pub passes : Passes f.tree f.receiver station.state g src (f.self).iface f.down
+  pub above : slice_get station.links (f.self).iface ≡ Some f.above
+  pub below : HasOneOn f.down f.below station
+
+-- who sends on the last link of a way, whose routers are listed from the last one up
+abbrev pub sender_of : Root → List Forwarder → ℕ
+sender_of root [] = root.router
+sender_of root (f ∷ fs) = (f.self).router
+
+-- each router of a way forwards to a link what another one sends on the link above, up to the root
+abbrev pub AreForwarding : (g src : ℕ) → Root → (link : ℕ) → List Forwarder → Network → Type 0
+AreForwarding g src root link [] n = (root.below ≡ link) × SendsDown g src root n
+AreForwarding g src root link (f ∷ fs) n =
+    (f.below ≡ link) × Forwards g src f n × ((sender_of root fs == (f.self).router) ≡ false) × AreForwarding g src root f.above fs n
+
+-- the link above a router, of whose routers it is one, carries what is sent on it; to begin with no frame has come that wasn't sent
+pub record HearsAll (d : ℕ) (started : ℕ → ℕ) (t : Traffic) (came : Arrivals) (n : Network) (ms : List Move) (f : Forwarder) : Type 0 where
+  pub members : List Member
+  pub among : IsOne members f.self
+  pub carries : Carries d started t f.above members came n ms
+  pub behind : came (f.self).router (f.self).iface ≤ length n.frames
+
+-- ---- what comes of a packet
+
+-- one of the moves does something
+abbrev pub SomeMove : (Network → Move → Type 0) → Network → List Move → Type 0
+SomeMove P n [] = ⊥
+SomeMove P n (m ∷ ms) = P n m ⊎ SomeMove P (moved n m).1 ms
+
+-- the move brings a packet to a router, and a new frame on a link is a copy of it
+pub record IsCopied (r link number : ℕ) (n : Network) (m : Move) : Type 0 where
+  pub event : Event
+  pub is : event_of n m ≡ Some (r, event)
+  pub station : Station
+  pub at : station_at n r ≡ Some station
+  pub packet : Packet
+  pub brought : packet_in (done_as (happens station.state event)) ≡ Some packet
+  pub later : length n.frames < number
+  pub framed : frame_at (moved n m).1 number ≡ Some (record { link = Some link; bytes = copy_text packet })
+
+-- the move brings a frame to a router of a way from the link above, and the other frame is its copy on the link below
+pub record IsPassedOn (f : Forwarder) (frame copy : ℕ) (n : Network) (m : Move) : Type 0 where
+  pub draw : ℕ
+  pub is : m ≡ Deliver (f.self).router (f.self).iface frame draw
+  pub copied : IsCopied (f.self).router f.below copy n m
+
+-- a frame on the last link comes of another one on the first link, router by router
+abbrev pub ComesOf : List Forwarder → (frame copy : ℕ) → Network → List Move → Type 0
+ComesOf [] frame copy n ms = frame ≡ copy
+ComesOf (f ∷ fs) frame copy n ms = (k : ℕ) × ComesOf fs frame k n ms × SomeMove (IsPassedOn f k copy) n ms
+
+-- a frame on the last link comes of the packet that a move brings to the root
+pub record ComesDown (root : Root) (fs : List Forwarder) (number : ℕ) (n : Network) (m : Move) (ms : List Move) : Type 0 where
+  pub frame : ℕ
+  pub sent : IsCopied root.router root.below frame n m
+  pub comes : ComesOf fs frame number n (m ∷ ms)
+
+-- exactly one frame on the last link does, with the packet's payload and this TTL, and it was sent by this moment
+pub record ComesOnce (g src link : ℕ) (payload : List ℕ) (lives by : ℕ) (t : Traffic) (root : Root) (fs : List Forwarder) (n : Network)
+    (m : Move) (ms : List Move) : Type 0 where
+  pub number : ℕ
+  pub comes : ComesDown root fs number n m ms
+  pub only : (k : ℕ) → ComesDown root fs k n m ms → k ≡ number
+  pub carried : Carried (network_ran (moved n m).1 ms).1 g src link payload lives
+  pub its : (carried.on_link).number ≡ number
+  pub soon : t.sent number ≤ by
+
+-- ---- the law
+
+-- something holds of each move, and of the moves that follow it
+abbrev pub EachMoveOn : (Network → Move → List Move → Type 0) → Network → List Move → Type 0
+EachMoveOn P n [] = Unit {0}
+EachMoveOn P n (m ∷ ms) = P n m ms × EachMoveOn P (moved n m).1 ms
+
+-- something holds of the moves that are left after each move by which the time at each router is past the bound
+abbrev pub HoldsPastOn : (ℕ → ℕ) → (bound : ℕ) → (Network → List Move → Type 0) → Network → List Move → Type 0
+HoldsPastOn started bound P n [] = Unit {0}
+HoldsPastOn started bound P n (m ∷ ms) =
+    (ArePast started bound (moved n m).1 → P (moved n m).1 ms) × HoldsPastOn started bound P (moved n m).1 ms
+
+-- if a move brings a packet of the source to the root, on a tree or in a Register, it comes down exactly once, within d for each
+-- router of the way, if the moves go so far
+pub record IsServedOnce (g src d : ℕ) (started : ℕ → ℕ) (t : Traffic) (root : Root) (link : ℕ) (fs : List Forwarder) (n : Network) (m : Move)
+    (ms : List Move) : Type 0 where
+  pub served : (e : Event) (before after : Station) (payload : List ℕ) (lives : ℕ) → event_of n m ≡ Some (root.router, e)
+      → station_at n root.router ≡ Some before → station_at (moved n m).1 root.router ≡ Some after → 0 < lives
+      → IsBrought before.state e g src root.down payload (lives + length fs)
+      → ArePast started (time_at started root.router after + length fs * d) (network_ran (moved n m).1 ms).1
+      → ComesOnce g src link payload lives (time_at started root.router after + length fs * d) t root fs n m ms
+
+-- so it is with each of the moves
+abbrev pub AreServedOnce : (g src d : ℕ) → (ℕ → ℕ) → Traffic → Root → (link : ℕ) → List Forwarder → Network → List Move → Type 0
+AreServedOnce g src d started t root link fs n ms = EachMoveOn (IsServedOnce g src d started t root link fs) n ms
+
+-- From when the routers of a way of any length forward the source's packets, each packet that is brought to the root is on the last
+-- link in exactly one frame that comes of it.
+abbrev pub EachPacketComesOnce : Type 0
+EachPacketComesOnce = (g src d bound : ℕ) (started : ℕ → ℕ) (t : Traffic) (came : Arrivals) (root : Root) (link : ℕ) (fs : List Forwarder)
+    (n : Network) (ms : List Move) → is_multicast g ≡ true → is_link_local g ≡ false → EachMove (IsSentBy started t) n ms
+    → AllByRecursion (HearsAll d started t came n ms) fs → HoldsPast started bound (AreForwarding g src root link fs) n ms
+    → HoldsPastOn started bound (AreServedOnce g src d started t root link fs) n ms
+
+-- ---- nothing else comes
+
+-- bytes that are read as data of the source
+pub record IsOfSource (g src : ℕ) (bytes : List ℕ) : Type 0 where
+  pub packet : Packet
+  pub reads : ipv4_reading bytes ≡ Ok packet
+  pub is_data : (packet.protocol == protocol_igmp) ≡ false
+  pub group : packet.destination ≡ g
+  pub source : packet.source ≡ src
+
+-- no other router sends a packet of the source on a link, whatever comes to it
+abbrev pub IsAlone : (g src r link : ℕ) → Network → Type 0
+IsAlone g src r link n = (q j : ℕ) (st : Station) (e : Event) (text : List ℕ) → (q == r) ≡ false → station_at n q ≡ Some st
+    → slice_get st.links j ≡ Some link → IsOfSource g src text → Contains (copies_at st.state e) (on_link j text) → ⊥
+
+-- so it is on each link of a way
+abbrev pub AreAlone : (g src : ℕ) → Root → (link : ℕ) → List Forwarder → Network → Type 0
+AreAlone g src root link [] n = IsAlone g src root.router link n
+AreAlone g src root link (f ∷ fs) n = IsAlone g src (f.self).router link n × AreAlone g src root f.above fs n
+
+-- the move delivers a frame to a router of a way from the link above
+pub record IsFromAbove (f : Forwarder) (m : Move) : Type 0 where
+  pub frame : ℕ
+  pub draw : ℕ
+  pub is : m ≡ Deliver (f.self).router (f.self).iface frame draw
+
+-- what makes a router of a way send a packet of the source on the link below is a frame from the link above
+abbrev pub TakesFromAbove : (g src : ℕ) → Network → Move → Forwarder → Type 0
+TakesFromAbove g src n m f = (e : Event) (st : Station) (text : List ℕ) → event_of n m ≡ Some ((f.self).router, e)
+    → station_at n (f.self).router ≡ Some st → IsOfSource g src text → Contains (copies_at st.state e) (on_link f.down text) → IsFromAbove f m
+
+-- a frame on the last link comes, router by router, of a packet that one of the moves brings to the root, or of a frame of before
+abbrev pub CameDown : Root → List Forwarder → (number : ℕ) → Network → List Move → Type 0
+CameDown root [] number n ms = SomeMove (IsCopied root.router root.below number) n ms
+CameDown root (f ∷ fs) number n ms =
+    (k : ℕ) × SomeMove (IsPassedOn f k number) n ms × ((k ≤ length n.frames) ⊎ CameDown root fs k n ms)
+
+-- so does each frame on the last link that the moves bring there and that holds a packet of the source
+abbrev pub AllCameDown : (g src : ℕ) → Root → (link : ℕ) → List Forwarder → Network → List Move → Type 0
+AllCameDown g src root link fs n ms = (number : ℕ) (bytes : List ℕ) → length n.frames < number
+    → frame_at (network_ran n ms).1 number ≡ Some (record { link = Some link; bytes = bytes }) → IsOfSource g src bytes
+    → CameDown root fs number n ms
+
+-- From when no other router sends on the links of a way, nothing of the source is on the last link but what comes down the way.
+abbrev pub NothingElseComes : Type 0
+NothingElseComes = (g src bound : ℕ) (started : ℕ → ℕ) (root : Root) (link : ℕ) (fs : List Forwarder) (n : Network) (ms : List Move)
+    → is_link_local g ≡ false → HoldsPast started bound (AreForwarding g src root link fs) n ms
+    → HoldsPast started bound (AreAlone g src root link fs) n ms → EachMove (λ n m. AllByRecursion (TakesFromAbove g src n m) fs) n ms
+    → HoldsPastOn started bound (AllCameDown g src root link fs) n ms

@@ -1,0 +1,31 @@
+//! What comes down a way.
+
+ghost use Rattle.law_converges.specs.CarriedWays.{CarriedNetworkServesOnce};
+ghost use Rattle.law_converges.specs.ComesOnce.{EachPacketComesOnce, NothingElseComes};
+
+/// Down a way of any length, from when its routers forward a source's packets on: of each packet that an event brings to the
+/// way's top router, its root, on a tree or in a Register, exactly one frame on the last link comes. The root puts one copy on
+/// its link; each further router takes the frame from the link above once, and puts one copy on the link below, within d of when
+/// the frame was sent. The frame on the last link has the packet's payload, and its TTL is lower by one for each router; that it
+/// is above 1 there is a premise, and that the moves go so far. Each of the routers has one interface on the link below, and
+/// passes the source's packets to it; the links carry all frames to all of their routers, in order and within d. It says
+/// nothing of what others send there.
+pub fn each_packet_comes_once()
+    ensures { EachPacketComesOnce }
+{}
+
+/// Nothing else of the source comes there: from when no other router sends its packets on the links of the way, as of the routers
+/// that lost an assert `NetworkSettles` says, each frame on the last link that holds a packet of the source comes, router by
+/// router, of a packet that an event brought to the root, or of a frame that was under way to begin with. What makes a router
+/// of the way send such a packet on the link below is a frame from the link above.
+pub fn nothing_else_comes()
+    ensures { NothingElseComes }
+{}
+
+/// So it is in a network that settles, as `CarriedNetworkSettles` says, with its premises: down each of its ways of a group each
+/// packet of a source comes exactly once to the last LAN, from the bound on. The next hops hold the group by then. What is asked
+/// besides is that each of them is on the group's tree, as `HeldIsPassedOnce` asks, has one interface on the link, and that the
+/// first router of the way passes the packets on to the last LAN.
+pub fn carried_network_serves_once()
+    ensures { CarriedNetworkServesOnce }
+{}
