@@ -6,7 +6,7 @@ use Rattle.pim_ip.{specs.{Addr.addr, Ipv4.{all_pim_routers, header_text, igmp_pa
 use Rattle.pim_types.{specs.declared.{config.Config.Config, event.Event.Event, fact.AssertMetric.AssertMetric}}
 use Rattle.pim_wire.{specs.{JoinPrunes.join_prune_text, declared.join_prune.EntryKind.EntryKind}}
 use Rattle.igmp_wire.{specs.Reports.report_text}
-use Rattle.pim_model.{specs.{Messages.entry, Network.{At, Deliver, Move, Network, Sent, frame_at, network_ran}, Sets.metric_of, Tables.hop_at}}
+use Rattle.pim_model.{specs.{Messages.entry, Network.{At, Deliver, DeliverUnicast, Move, Network, Sent, frame_at, network_ran}, Sets.metric_of, Tables.hop_at}}
 use Rattle.law_streams.{specs.{InTimeJoins.{Always, Join, Star}, Joins.join_packet}}
 use Rattle.pim_runs.{specs.{Base.{base, interface, route_by, rp, rp_network}, InTime.started, ServedChain.{asked_group, content, hello_from, station}, Words.{address, advance, frame, up}}}
 use Rattle.law_converges.{specs.{Carried.{Arrivals, Traffic}, CarriedNetwork.{Claim, IsQuietPlan, JoinOver, Lan, Plan, WayOver, layout_of}, CarriedPrunes.{Wish, wire_of}, LinkAsserts.assert_packet, LinkDr.Member, LinkMembersRun.wish as host_wish, LinkQuerierRun.settings, LinkRpt.override_packet, LinkRptOrder.{AreInOrder, IsUnpruned, Wire}, Settles.HasSettled}}
@@ -104,8 +104,8 @@ source_sends = frame 3 (header_text [] 16 17 source_there asked_group (length co
 
 -- The Assert, Join, Hello and query timers expire, and what leaves on the LANs comes to all there, in order. In between the source sends
 -- a packet, the second router prunes it, and the first one overrides that after a second. The host answers the queries.
-abbrev pub moves : List Move
-moves =
+abbrev pub settling : List Move
+settling =
     all_to 268000 ++ (Deliver 1 0 1 7 ∷ Deliver 0 0 2 7 ∷ Deliver 1 0 3 7 ∷ At 1 (advance 270008) ∷ [])
     ++ all_to 271001
     ++ (Deliver 1 1 6 7 ∷ Deliver 2 0 6 7 ∷ Deliver 1 0 7 7 ∷ Deliver 1 1 8 7 ∷ Deliver 2 0 8 7 ∷ Deliver 0 1 9 7 ∷ Deliver 2 0 9 7
@@ -117,13 +117,21 @@ moves =
     ∷ Deliver 1 1 23 7 ∷ At 0 (answer_on 0 (address 10 0 1 9)) ∷ At 1 (answer_on 0 (address 10 0 1 9)) ∷ [])
     ++ all_to 281451
 
+-- Then the source sends another packet. The second router's Register brings it to the RP, which sends it on the second LAN, and the first
+-- router on the first one.
+abbrev pub serving : List Move
+serving = DeliverUnicast 2 25 7 ∷ Deliver 0 1 26 7 ∷ Deliver 1 1 26 7 ∷ Deliver 1 0 27 7 ∷ all_to 281552
+
+abbrev pub moves : List Move
+moves = settling ++ At 1 source_sends ∷ serving
+
 -- when each frame was sent, and by whom
 abbrev pub traffic : Traffic
 traffic = record {
   sent = λ k. if nat_le k 3 then 268000 else if nat_le k 5 then 270008 else if nat_le k 12 then 271001 else if nat_le k 15 then 271500
-      else if nat_le k 16 then 272500 else 281250;
-  by = λ k. if (k == 12) || (k == 23) then 2
-      else if (k == 1) || (k == 3) || (k == 6) || (k == 7) || (k == 8) || (k == 16) || (k == 17) || (k == 18) then 0 else 1;
+      else if nat_le k 16 then 272500 else if nat_le k 23 then 281250 else 281451;
+  by = λ k. if (k == 12) || ((k == 23) || (k == 26)) then 2
+      else if (k == 1) || (k == 3) || (k == 6) || (k == 7) || (k == 8) || (k == 16) || (k == 17) || ((k == 18) || (k == 27)) then 0 else 1;
 }
 
 abbrev pub none_came : Arrivals
