@@ -5,7 +5,7 @@ use Rattle.law_streams.{specs.{InTimeJoins.{IsJoin, IsReady}, Joins.join_packet}
 use Rattle.pim_runs.{specs.{InTime.started, ServedChain.asked_group}, proofs.OnLiterals.machine_on_literals}
 use Rattle.law_converges.{specs.{Carried.{IsCarried, IsPrompt, IsSentBy}, CarriedLinks.JoinKeeps, CarriedNetwork.{ClaimIsQuiet, JoinIsQuiet, JoinOver, LanIsQuiet, WayIsQuiet, WishIsQuiet, joining_on, layout_of}, CarriedNetworkRun.{OverrideComesInOrder, PlanIsQuiet, PlanSettles, PruneHasNoEffect, before, bound, claim, farther_before, farther_config, farther_joins, farther_on_high, farther_on_low, high_lan, its_metric, its_wire, its_wish, lag, low_lan, moves, nearer_before, nearer_config, nearer_joins, nearer_on_high, nearer_on_low, none_came, plan, rp_before, rp_config, rp_on_high, soon, star, traffic, way}, LinkAsserts.IsSayable, LinkDr.{IsOne, Member, between}, LinkLosers.{needs_no_clearing, passes_throughout, survives, survives_instant, survives_timer}, LinkMembers.AnswersInTime, LinkRptOrder.{Begins, IsOverridable}, Settles.{HasSettled, Joining, routers}}, proofs.{CarriedNetwork.carried_network_settles, CarriedPrunes.prunes_in_order, CarriedTests.{carries_so, carries_test, each_move_so, move_test, prompt_so, prompt_test, sent_by_so, sent_by_test}, ClaimTests.{claim_test, due_so, due_test, off_tree, yields_so}, HelloTests.{both_of, single_so}, JoinTests.{due_of, first_due, first_test, first_wants, is_addressed, near_of, near_test, quiet_test, there_of, unlost_of, unlost_test, wants_of, writable_so}, KeepsTests.{ask_keeps, ask_keeps_so, join_keeps, join_keeps_so, meet_keeps, meet_keeps_so}, LinkRptOrder.overridden_prune_has_no_effect, QueryTests.{member_so, member_test}, Tested.{all_together, ends_past, past_so, past_test, ready_by, together_test}, WishTests.{all_known, all_kept, wants_state, wants_state_so, wish_test}}}
 
-abbrev nowhere : Station
+abbrev pub nowhere : Station
 nowhere = record { links = []; state = opening rp_config }
 
 -- ---- ready
@@ -22,7 +22,7 @@ rp_accepted : config_test rp_config ≡ Ok tt
 unfolding machine_on_literals
 rp_accepted = refl
 
-nearer_ready : IsReady 0 before
+pub nearer_ready : IsReady 0 before
 unfolding station_at
 nearer_ready = ready_by before 0 (1 ∷ 2 ∷ []) nearer_config nearer_before nearer_accepted refl
 

@@ -81,6 +81,11 @@ module _ (g src rp : ℕ) (h : HopOn) (n : Network) (ready : IsReady (h.upper).r
 
 -- ---- from the bound on
 
+-- a router stays ready
+pub ready_past : (started : ℕ → ℕ) (bound r : ℕ) (ms : List Move) (n : Network) → IsReady r n → HoldsPast started bound (IsReady r) n ms
+ready_past started bound r [] n f = tt
+ready_past started bound r (m ∷ ms) n f = (λ past. ready_then r n m f, ready_past started bound r ms (moved n m).1 (ready_then r n m f))
+
 module _ (g src rp d late bound : ℕ) (started : ℕ → ℕ) (t : Traffic) (came : Arrivals) (lans : List Lan) (n : Network) (ms : List Move)
     (quiet : AllByRecursion (LanIsQuiet d late bound started t came n ms) lans) where
   abbrev Quiet : HopOn → Type 0
@@ -98,16 +103,8 @@ module _ (g src rp d late bound : ℕ) (started : ℕ → ℕ) (t : Traffic) (ca
   its_lan : (h : HopOn) → Quiet h → LanIsQuiet d late bound started t came n ms h.lan
   its_lan h q = one_lan (LanIsQuiet d late bound started t came n ms) lans h.lan quiet q.among
 
-  -- a router stays ready
-  ready_past : (r : ℕ) → IsReady r n → PastIt (IsReady r)
-  ready_past r = go ms n
-    where
-      go : (xs : List Move) (x : Network) → IsReady r x → HoldsPast started bound (IsReady r) x xs
-      go [] x f = tt
-      go (y ∷ ys) x f = (λ past. ready_then r x y f, go ys (moved x y).1 (ready_then r x y f))
-
   upper_ready : (h : HopOn) → Quiet h → PastIt (IsReady (h.upper).router)
-  upper_ready h q = ready_past (h.upper).router ((its_lan h q).meet.ready h.upper (q.on).upper)
+  upper_ready h q = ready_past started bound (h.upper).router ms n ((its_lan h q).meet.ready h.upper (q.on).upper)
 
   -- who sends on the link of a next hop isn't its lower router
   sender_is : (h : HopOn) (hs : List HopOn) → Rest h hs → sender_of (root_of h hs) (forwarders h hs) ≡ (h.upper).router

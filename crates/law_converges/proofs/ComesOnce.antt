@@ -124,7 +124,7 @@ unfolding network_ran
 last_of P [] n f = f
 last_of P (m ∷ ms) n f = last_of P ms (moved n m).1 f.1
 
-always_more : (P Q : Network → Type 0) → ((n : Network) → P n → Q n) → (ms : List Move) (n : Network) → Always P n ms → Always Q n ms
+pub always_more : (P Q : Network → Type 0) → ((n : Network) → P n → Q n) → (ms : List Move) (n : Network) → Always P n ms → Always Q n ms
 always_more P Q so [] n f = so n f
 always_more P Q so (m ∷ ms) n f = (so n f.0, always_more P Q so ms (moved n m).1 f.1)
 
@@ -710,7 +710,7 @@ no_station n m r st none at = go (event_of n m) at
 -- ---- from a bound on
 
 module _ (started : ℕ → ℕ) (bound : ℕ) where
-  past_then : (n : Network) (m : Move) → ArePast started bound n → ArePast started bound (moved n m).1
+  pub past_then : (n : Network) (m : Move) → ArePast started bound n → ArePast started bound (moved n m).1
   past_then n m past r st at = go (station_at n r) refl
     where
       further : (a b c : ℕ) → a ≤ b → bound < a + c → bound < b + c

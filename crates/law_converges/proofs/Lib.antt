@@ -53,4 +53,6 @@ pub mod CarriedTests
 pub mod KeepsTests
 pub mod ClaimTests
 pub mod WishTests
+pub mod WayTests
+pub mod CarriedWaysRun
 pub mod JoinedWaysRun

@@ -4,7 +4,7 @@ use Rattle.pim_ip.{specs.{Ipv4.{Packet, copy_text, ipv4_reading, is_link_local, 
 use Rattle.pim_types.{specs.declared.{event.{Event.Event, EventKind.EventKind}, outcome.Emission.Emission}}
 use Rattle.pim_model.{specs.{Cause.{done_as, packet_in}, Network.{Deliver, Move, Network, Sent, Station, bad_move, event_of, frame_at, frame_event, is_on_frame_link, moved, moved_at, network_ran, sent_by, station_at, stepped}, State.State, Step.step, Tables.same_option, Writing.{on_link, pim_to}}}
 use Rattle.law_streams.{specs.{Brought.{BringsPacket, InRegister, OnLink}, Copies.{IsLower, IsLowerInside, copies_at, happens}, Data.{IsMessage, IsOfAKind}, InTimeJoins.Always}, proofs.{Brought.packet_comes_from_event, Climbing.frames_stay, Copies.each_emission_is_of_a_kind, Forwards.copy_reads_lower, Pairs.same_station}}
-use Rattle.law_converges.{specs.{Carried.EachMove, ComesOnce.{AllCameDown, AreAlone, AreForwarding, CameDown, Forwarder, Forwards, HoldsPastOn, IsAlone, IsCopied, IsFromAbove, IsOfSource, IsPassedOn, NothingElseComes, Root, SomeMove, TakesFromAbove}, Past.{ArePast, HoldsPast}}, proofs.{Carried.more_frames, ComesOnce.from_then_on, LinkRptOrder.{Got, got_below, none_behind}, OneCopy.{Behind, behind, isnt_message, isnt_register}, TakesOver.moved_so}}
+use Rattle.law_converges.{specs.{Carried.EachMove, ComesOnce.{AllCameDown, AreAlone, AreAlonePast, AreForwarding, CameDown, Forwarder, Forwards, HoldsPastOn, IsAlone, IsCopied, IsFromAbove, IsOfSource, IsPassedOn, NothingElseComes, Root, SomeMove, TakesFromAbove}, Past.{ArePast, HoldsPast}}, proofs.{Carried.more_frames, ComesOnce.{always_more, from_then_on, past_then}, LinkRptOrder.{Got, got_below, none_behind}, OneCopy.{Behind, behind, isnt_message, isnt_register}, TakesOver.moved_so}}
 
 contradicts : true ≡ false → ⊥
 contradicts e = cc e
@@ -237,14 +237,10 @@ module _ (g src : ℕ) (far : is_link_local g ≡ false) where
     its_frame = record { link = Some link; bytes = bytes }
 
     -- it is the one router that may send there
-    by_it : (r : ℕ) (n : Network) (m : Move) (p : IsPut link number bytes n m) → IsAlone g src r link n → p.router ≡ r
-    by_it r n m p alone = go (p.router == r) refl
-      where
-        go : (b : Bool) → (p.router == r) ≡ b → p.router ≡ r
-        go true same = eqb-true p.router r same
-        go false off = absurd (alone p.router p.iface p.station p.event bytes off p.at p.linked its p.copied)
+    by_it : (r : ℕ) (n : Network) (m : Move) (p : IsPut link number bytes n m) → IsAlone g src r link n m → p.router ≡ r
+    by_it r n m p alone = alone p.router p.iface p.event p.station bytes p.is p.at p.linked its p.copied
 
-    at_root : (r : ℕ) (n : Network) (m : Move) → IsAlone g src r link n → length n.frames < number → frame_at (moved n m).1 number ≡ Some its_frame
+    at_root : (r : ℕ) (n : Network) (m : Move) → IsAlone g src r link n m → length n.frames < number → frame_at (moved n m).1 number ≡ Some its_frame
         → IsCopied r link number n m
     at_root r n m alone new got =
         let p : IsPut link number bytes n m = put g src link number bytes far its n m new got in
@@ -263,7 +259,7 @@ module _ (g src : ℕ) (far : is_link_local g ≡ false) where
         framed : List ℕ → Option Sent
         framed b = Some (record { link = Some link; bytes = b })
 
-    module _ (f : Forwarder) (below : f.below ≡ link) (n : Network) (m : Move) (fw : Forwards g src f n) (alone : IsAlone g src (f.self).router link n)
+    module _ (f : Forwarder) (below : f.below ≡ link) (n : Network) (m : Move) (fw : Forwards g src f n) (alone : IsAlone g src (f.self).router link n m)
         (from : TakesFromAbove g src n m f) (new : length n.frames < number) (got : frame_at (moved n m).1 number ≡ Some its_frame) where
       abbrev r : ℕ
       r = (f.self).router
@@ -345,45 +341,35 @@ module _ (g src : ℕ) (far : is_link_local g ≡ false) where
   each_move_more P Q so [] n f = tt
   each_move_more P Q so (m ∷ ms) n f = (so n m f.0, each_move_more P Q so ms (moved n m).1 f.1)
 
-  always_both : (P Q R : Network → Type 0) → ((n : Network) → P n → Q n → R n) → (ms : List Move) (n : Network) → Always P n ms → Always Q n ms
-      → Always R n ms
-  always_both P Q R so [] n f h = so n f h
-  always_both P Q R so (m ∷ ms) n f h = (so n f.0 h.0, always_both P Q R so ms (moved n m).1 f.1 h.1)
+  -- what each move does for the last router
+  abbrev Alone : (f : Forwarder) (link : ℕ) → Network → Move → Type 0
+  Alone f link n m = IsAlone g src (f.self).router link n m × TakesFromAbove g src n m f
 
-  -- what the last router needs
-  abbrev Both : (f : Forwarder) (link : ℕ) → Network → Type 0
-  Both f link n = (f.below ≡ link) × Forwards g src f n × IsAlone g src (f.self).router link n
+  abbrev AllAlone : Root → (link : ℕ) → List Forwarder → Network → Move → Type 0
+  AllAlone root link fs n m = AreAlone g src root link fs n m × AllByRecursion (TakesFromAbove g src n m) fs
 
   module _ (root : Root) where
     all_came : (fs : List Forwarder) (link : ℕ) (ms : List Move) (n : Network) → Always (AreForwarding g src root link fs) n ms
-        → Always (AreAlone g src root link fs) n ms → EachMove (λ n m. AllByRecursion (TakesFromAbove g src n m) fs) n ms
-        → AllCameDown g src root link fs n ms
-    all_came [] link ms n way alone from number bytes new got its =
-        some_move number (its_frame link number bytes its)
-        (λ n. (root.below ≡ link) × IsAlone g src root.router link n) (λ n m. Unit {0})
+        → EachMove (AllAlone root link fs) n ms → AllCameDown g src root link fs n ms
+    all_came [] link ms n way alone number bytes new got its =
+        some_move number (its_frame link number bytes its) (λ n. root.below ≡ link) (λ n m. IsAlone g src root.router link n m)
         (IsCopied root.router root.below number)
-        (λ n m p q lt at. subst (λ (l : ℕ). IsCopied root.router l number n m) (sym p.0) (at_root link number bytes its root.router n m p.1 lt at))
-        ms n
-        (always_both (AreForwarding g src root link []) (AreAlone g src root link [])
-        (λ n. (root.below ≡ link) × IsAlone g src root.router link n) (λ n a b. (a.0, b)) ms n way alone)
-        (each_move_more (λ n m. AllByRecursion (TakesFromAbove g src n m) []) (λ n m. Unit {0}) (λ n m x. tt) ms n from) new got
-    all_came (f ∷ fs) link ms n way alone from number bytes new got its =
+        (λ n m p q lt at. subst (λ (l : ℕ). IsCopied root.router l number n m) (sym p) (at_root link number bytes its root.router n m q lt at))
+        ms n (always_more (AreForwarding g src root link []) (λ n. root.below ≡ link) (λ n a. a.0) ms n way)
+        (each_move_more (AllAlone root link []) (λ n m. IsAlone g src root.router link n m) (λ n m x. x.0) ms n alone) new got
+    all_came (f ∷ fs) link ms n way alone number bytes new got its =
         let last : IsMadeBy f number n ms =
         made_by f number ms n
-        (some_move number (its_frame link number bytes its) (Both f link) (λ n m. TakesFromAbove g src n m f) (IsMade f number)
-        (λ n m p q lt at. made link number bytes its f p.0 n m p.1 p.2 q lt at) ms n
-        (always_both (AreForwarding g src root link (f ∷ fs)) (AreAlone g src root link (f ∷ fs)) (Both f link) (λ n a b. (a.0, a.1, b.0)) ms n way alone)
-        (each_move_more (λ n m. AllByRecursion (TakesFromAbove g src n m) (f ∷ fs)) (λ n m. TakesFromAbove g src n m f) (λ n m x. x.0) ms n from)
-        new got) in (
+        (some_move number (its_frame link number bytes its) (λ n. (f.below ≡ link) × Forwards g src f n) (Alone f link) (IsMade f number)
+        (λ n m p q lt at. made link number bytes its f p.0 n m p.1 q.0 q.1 lt at) ms n
+        (always_more (AreForwarding g src root link (f ∷ fs)) (λ n. (f.below ≡ link) × Forwards g src f n) (λ n a. (a.0, a.1)) ms n way)
+        (each_move_more (AllAlone root link (f ∷ fs)) (Alone f link) (λ n m x. ((x.0).0, (x.1).0)) ms n alone) new got) in
+        (
           last.frame,
           last.passed,
           or_before last.frame (length n.frames) (λ lt. all_came fs f.above ms n
-              (always_both (AreForwarding g src root link (f ∷ fs)) (AreAlone g src root link (f ∷ fs)) (AreForwarding g src root f.above fs) (λ n a b. a.3) ms
-              n way alone)
-              (always_both (AreForwarding g src root link (f ∷ fs)) (AreAlone g src root link (f ∷ fs)) (AreAlone g src root f.above fs) (λ n a b. b.1) ms n
-              way alone)
-              (each_move_more (λ n m. AllByRecursion (TakesFromAbove g src n m) (f ∷ fs)) (λ n m. AllByRecursion (TakesFromAbove g src n m) fs)
-              (λ n m x. x.1) ms n from)
+              (always_more (AreForwarding g src root link (f ∷ fs)) (AreForwarding g src root f.above fs) (λ n a. a.3) ms n way)
+              (each_move_more (AllAlone root link (f ∷ fs)) (AllAlone root f.above fs) (λ n m x. ((x.0).1, (x.1).1)) ms n alone)
               last.frame last.old lt last.there last.its),
         )
       where
@@ -394,16 +380,22 @@ module _ (g src : ℕ) (far : is_link_local g ≡ false) where
             go true lt = inr (h (lt_so first k lt))
             go false le = inl (le_so first k le)
 
+-- past the bound each move is
+each_past : (started : ℕ → ℕ) (bound : ℕ) (P : Network → Move → Type 0) (ms : List Move) (n : Network) → ArePast started bound n
+    → EachMove (λ n m. ArePast started bound n → P n m) n ms → EachMove P n ms
+each_past started bound P [] n past f = tt
+each_past started bound P (m ∷ ms) n past f =
+    (f.0 past, each_past started bound P ms (moved n m).1 (past_then started bound n m past) f.1)
+
 pub nothing_else_comes : NothingElseComes
 nothing_else_comes g src bound started root link fs n ms far = go ms n
   where
     go : (ms : List Move) (n : Network) → HoldsPast started bound (AreForwarding g src root link fs) n ms
-        → HoldsPast started bound (AreAlone g src root link fs) n ms → EachMove (λ n m. AllByRecursion (TakesFromAbove g src n m) fs) n ms
-        → HoldsPastOn started bound (AllCameDown g src root link fs) n ms
-    go [] n way alone from = tt
-    go (m ∷ ms) n way alone from = (
+        → EachMove (AreAlonePast g src started bound root link fs) n ms → HoldsPastOn started bound (AllCameDown g src root link fs) n ms
+    go [] n way alone = tt
+    go (m ∷ ms) n way alone = (
       λ past. all_came g src far root fs link ms (moved n m).1
           (from_then_on started bound (AreForwarding g src root link fs) ms (moved n m).1 past (way.0 past) way.1)
-          (from_then_on started bound (AreAlone g src root link fs) ms (moved n m).1 past (alone.0 past) alone.1) from.1,
-      go ms (moved n m).1 way.1 alone.1 from.1,
+          (each_past started bound (AllAlone g src far root link fs) ms (moved n m).1 past alone.1),
+      go ms (moved n m).1 way.1 alone.1,
     )

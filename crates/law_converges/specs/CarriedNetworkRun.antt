@@ -119,11 +119,14 @@ settling =
 
 -- Then the source sends another packet. The second router's Register brings it to the RP, which sends it on the second LAN, and the first
 -- router on the first one.
+abbrev pub by_register : Move
+by_register = DeliverUnicast 2 25 7
+
 abbrev pub serving : List Move
-serving = DeliverUnicast 2 25 7 ∷ Deliver 0 1 26 7 ∷ Deliver 1 1 26 7 ∷ Deliver 1 0 27 7 ∷ all_to 281552
+serving = Deliver 0 1 26 7 ∷ Deliver 1 1 26 7 ∷ Deliver 1 0 27 7 ∷ all_to 281552
 
 abbrev pub moves : List Move
-moves = settling ++ At 1 source_sends ∷ serving
+moves = settling ++ At 1 source_sends ∷ by_register ∷ serving
 
 -- when each frame was sent, and by whom
 abbrev pub traffic : Traffic

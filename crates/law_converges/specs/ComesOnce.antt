@@ -153,15 +153,15 @@ pub record IsOfSource (g src : ℕ) (bytes : List ℕ) : Type 0 where
   pub group : packet.destination ≡ g
   pub source : packet.source ≡ src
 
--- no other router sends a packet of the source on a link, whatever comes to it
-abbrev pub IsAlone : (g src r link : ℕ) → Network → Type 0
-IsAlone g src r link n = (q j : ℕ) (st : Station) (e : Event) (text : List ℕ) → (q == r) ≡ false → station_at n q ≡ Some st
-    → slice_get st.links j ≡ Some link → IsOfSource g src text → Contains (copies_at st.state e) (on_link j text) → ⊥
+-- no other router sends a packet of the source on a link by the move
+abbrev pub IsAlone : (g src r link : ℕ) → Network → Move → Type 0
+IsAlone g src r link n m = (q j : ℕ) (e : Event) (st : Station) (text : List ℕ) → event_of n m ≡ Some (q, e) → station_at n q ≡ Some st
+    → slice_get st.links j ≡ Some link → IsOfSource g src text → Contains (copies_at st.state e) (on_link j text) → q ≡ r
 
 -- so it is on each link of a way
-abbrev pub AreAlone : (g src : ℕ) → Root → (link : ℕ) → List Forwarder → Network → Type 0
-AreAlone g src root link [] n = IsAlone g src root.router link n
-AreAlone g src root link (f ∷ fs) n = IsAlone g src (f.self).router link n × AreAlone g src root f.above fs n
+abbrev pub AreAlone : (g src : ℕ) → Root → (link : ℕ) → List Forwarder → Network → Move → Type 0
+AreAlone g src root link [] n m = IsAlone g src root.router link n m
+AreAlone g src root link (f ∷ fs) n m = IsAlone g src (f.self).router link n m × AreAlone g src root f.above fs n m
 
 -- the move delivers a frame to a router of a way from the link above
 pub record IsFromAbove (f : Forwarder) (m : Move) : Type 0 where
@@ -173,6 +173,11 @@ pub record IsFromAbove (f : Forwarder) (m : Move) : Type 0 where
 abbrev pub TakesFromAbove : (g src : ℕ) → Network → Move → Forwarder → Type 0
 TakesFromAbove g src n m f = (e : Event) (st : Station) (text : List ℕ) → event_of n m ≡ Some ((f.self).router, e)
     → station_at n (f.self).router ≡ Some st → IsOfSource g src text → Contains (copies_at st.state e) (on_link f.down text) → IsFromAbove f m
+
+-- so it is by each move from the bound on
+abbrev pub AreAlonePast : (g src : ℕ) → (ℕ → ℕ) → (bound : ℕ) → Root → (link : ℕ) → List Forwarder → Network → Move → Type 0
+AreAlonePast g src started bound root link fs n m =
+    ArePast started bound n → AreAlone g src root link fs n m × AllByRecursion (TakesFromAbove g src n m) fs
 
 -- a frame on the last link comes, router by router, of a packet that one of the moves brings to the root, or of a frame of before
 abbrev pub CameDown : Root → List Forwarder → (number : ℕ) → Network → List Move → Type 0
@@ -186,9 +191,9 @@ AllCameDown g src root link fs n ms = (number : ℕ) (bytes : List ℕ) → leng
     → frame_at (network_ran n ms).1 number ≡ Some (record { link = Some link; bytes = bytes }) → IsOfSource g src bytes
     → CameDown root fs number n ms
 
--- From when no other router sends on the links of a way, nothing of the source is on the last link but what comes down the way.
+-- From when no other router sends them on the links of a way, nothing of the source's packets is on the last link but what comes
+-- down the way.
 abbrev pub NothingElseComes : Type 0
 NothingElseComes = (g src bound : ℕ) (started : ℕ → ℕ) (root : Root) (link : ℕ) (fs : List Forwarder) (n : Network) (ms : List Move)
     → is_link_local g ≡ false → HoldsPast started bound (AreForwarding g src root link fs) n ms
-    → HoldsPast started bound (AreAlone g src root link fs) n ms → EachMove (λ n m. AllByRecursion (TakesFromAbove g src n m) fs) n ms
-    → HoldsPastOn started bound (AllCameDown g src root link fs) n ms
+    → EachMove (AreAlonePast g src started bound root link fs) n ms → HoldsPastOn started bound (AllCameDown g src root link fs) n ms

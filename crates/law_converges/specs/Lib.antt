@@ -30,3 +30,4 @@ pub mod Settles
 pub mod CarriedNetwork
 pub mod CarriedWays
 pub mod CarriedNetworkRun
+pub mod CarriedWaysRun
