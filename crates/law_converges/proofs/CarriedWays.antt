@@ -4,7 +4,7 @@ use Rattle.pim_types.{specs.Keys.star_key}
 use Rattle.pim_model.{specs.{Network.{Move, Network, Station, moved, station_at}, Tables.row_at}}
 use Rattle.law_events.{specs.Rest.IsAtRest}
 use Rattle.law_streams.{specs.{InTimeJoins.{Always, AreThere, IsHeld, IsReady, Star}, Passing.{Passes, Receiver, Tree}}, proofs.Pairs.{ready_then, same_station}}
-use Rattle.law_converges.{specs.{Carried.{Arrivals, Carries, IsCarried, Traffic}, CarriedNetwork.{HopIsQuiet, HopOn, HopsAreQuiet, IsQuietPlan, Lan, LanIsQuiet, Plan, WayIsQuiet, WayOver, layout_of, number_of, way_on}, CarriedWays.{AreOnTree, CarriedNetworkServesOnce, IsClear, IsOneWay, forwarders, pair_on, root_of}, ComesOnce.{AreForwarding, Forwarder, Forwards, HasOneOn, HearsAll, Root, SendsDown, sender_of}, LinkDr.{IsOne, Member}, Past.HoldsPast, PassedOnce.IsOnTree, Settles.{HasSettled, Way, routers}}, proofs.{CarriedNetwork.{carried_network_settles, one_lan}, ComesOnce.each_packet_comes_once, PassedOnce.passes, Past.{both_past, same_past, throughout_past}}}
+use Rattle.law_converges.{specs.{Carried.{Arrivals, Carries, EachMove, IsCarried, Traffic}, CarriedNetwork.{HopIsQuiet, HopOn, HopsAreQuiet, IsQuietPlan, Lan, LanIsQuiet, Plan, WayIsQuiet, WayOver, layout_of, number_of, way_on}, CarriedWays.{AreOnTree, CarriedNetworkBringsNothingElse, CarriedNetworkServesOnce, IsClear, IsOneWay, IsOpen, forwarders, pair_on, root_of}, ComesOnce.{AllCameDown, AreAlonePast, AreForwarding, AreServedOnce, Forwarder, Forwards, HasOneOn, HearsAll, HoldsPastOn, Root, SendsDown, sender_of}, LinkDr.{IsOne, Member}, Past.HoldsPast, PassedOnce.IsOnTree, Settles.{HasSettled, Way, routers}}, proofs.{CarriedNetwork.{carried_network_settles, one_lan}, ComesOnce.each_packet_comes_once, NothingElse.nothing_else_comes, PassedOnce.passes, Past.{both_past, same_past, throughout_past}}}
 
 -- ---- lists
 
@@ -192,33 +192,48 @@ module _ (g src rp d late bound : ℕ) (started : ℕ → ℕ) (t : Traffic) (ca
   all_hear h [] rest = tt
   all_hear h (k ∷ ks) rest = (hears k rest.1 _ refl refl, all_hear k ks rest.2)
 
+module _ (g src rp d late lag bound first : ℕ) (started : ℕ → ℕ) (t : Traffic) (came : Arrivals) (plan : Plan) (n : Network) (ms : List Move)
+    (h : HopOn) (hs : List HopOn) (f : Forwarder) (q : IsQuietPlan d late lag bound started t came plan n ms)
+    (o : IsOpen g src rp first bound started plan n ms h hs f) where
+  abbrev its_way : WayOver
+  its_way = record { join = Star rp; group = g; first = first; hops = h ∷ hs }
+
+  way : WayIsQuiet d lag bound started t plan.lans n ms its_way
+  way = one_way (WayIsQuiet d lag bound started t plan.lans n ms) plan.ways its_way q.ways o.among
+
+  held : HoldsPast started bound (λ x. AllByRecursion (λ c. IsHeld (Star rp) g c x) (map pair_on (h ∷ hs))) n ms
+  held =
+      same_past started bound (HasSettled (layout_of d late started t plan)) (λ x. AllByRecursion (λ c. IsHeld (Star rp) g c x) (map pair_on (h ∷ hs)))
+      (λ x a. one_mapped (λ w. AllByRecursion (λ c. IsHeld w.join w.group c x) w.hops) plan.ways its_way a.ways o.among) ms n
+      (carried_network_settles d late lag bound started t came plan n ms q)
+
+  apart : (sender_of (root_of h hs) (forwarders h hs) == (f.self).router) ≡ false
+  apart =
+      subst (λ (y : Member). (sender_of (root_of h hs) (forwarders h hs) == y.router) ≡ false) (sym o.self)
+      (sender_apart g src rp d late bound started t came plan.lans n ms q.lans h hs ((way).hops).1 ((way).hops).2)
+
+  pub all_forward : HoldsPast started bound (AreForwarding g src (root_of h hs) f.below (f ∷ forwarders h hs)) n ms
+  all_forward =
+      both_past started bound (Forwards g src f) (AreForwarding g src (root_of h hs) (number_of h.lan) (forwarders h hs))
+      (AreForwarding g src (root_of h hs) f.below (f ∷ forwarders h hs))
+      (λ x a b. (refl, a, apart, subst (λ (l : ℕ). AreForwarding g src (root_of h hs) l (forwarders h hs) x) (sym o.above) b)) ms n o.passes
+      (way_past g src rp d late bound started t came plan.lans n ms q.lans h hs ((way).hops).1 ((way).hops).2 held o.tree)
+
+  served_once : HoldsPastOn started bound (AreServedOnce g src d started t (root_of h hs) f.below (f ∷ forwarders h hs)) n ms
+  served_once =
+      each_packet_comes_once g src d bound started t came (root_of h hs) f.below (f ∷ forwarders h hs) n ms ((way).addresses).multicast
+      ((way).addresses).goes_far ((its_lan g src rp d late bound started t came plan.lans n ms q.lans h ((way).hops).1).carried).sent
+      (hears g src rp d late bound started t came plan.lans n ms q.lans h ((way).hops).1 f o.self o.above,
+      all_hear g src rp d late bound started t came plan.lans n ms q.lans h hs ((way).hops).2)
+      all_forward
+
+  none_besides : EachMove (AreAlonePast g src started bound (root_of h hs) f.below (f ∷ forwarders h hs)) n ms
+      → HoldsPastOn started bound (AllCameDown g src (root_of h hs) f.below (f ∷ forwarders h hs)) n ms
+  none_besides alone =
+      nothing_else_comes g src bound started (root_of h hs) f.below (f ∷ forwarders h hs) n ms ((way).addresses).goes_far all_forward alone
+
 pub carried_network_serves_once : CarriedNetworkServesOnce
-carried_network_serves_once g src rp d late lag bound first started t came plan n ms h hs f q among tree self above last =
-    each_packet_comes_once g src d bound started t came (root_of h hs) f.below (f ∷ forwarders h hs) n ms (way.addresses).multicast
-    (way.addresses).goes_far ((its_lan g src rp d late bound started t came plan.lans n ms q.lans h (way.hops).1).carried).sent (
-      hears g src rp d late bound started t came plan.lans n ms q.lans h (way.hops).1 f self above,
-      all_hear g src rp d late bound started t came plan.lans n ms q.lans h hs (way.hops).2,
-    )
-    (both_past started bound (Forwards g src f) (AreForwarding g src (root_of h hs) (number_of h.lan) (forwarders h hs))
-    (AreForwarding g src (root_of h hs) f.below (f ∷ forwarders h hs))
-    (λ x a b. (refl, a, apart, subst (λ (l : ℕ). AreForwarding g src (root_of h hs) l (forwarders h hs) x) (sym above) b)) ms n last
-    (way_past g src rp d late bound started t came plan.lans n ms q.lans h hs (way.hops).1 (way.hops).2 held tree))
-  where
-    its_way : WayOver
-    its_way = record { join = Star rp; group = g; first = first; hops = h ∷ hs }
+carried_network_serves_once = served_once
 
-    way : WayIsQuiet d lag bound started t plan.lans n ms (record { join = Star rp; group = g; first = first; hops = h ∷ hs })
-    way =
-        one_way (WayIsQuiet d lag bound started t plan.lans n ms) plan.ways (record { join = Star rp; group = g; first = first; hops = h ∷ hs }) q.ways among
-
-    held : HoldsPast started bound (λ x. AllByRecursion (λ c. IsHeld (Star rp) g c x) (map pair_on (h ∷ hs))) n ms
-    held =
-        same_past started bound (HasSettled (layout_of d late started t plan)) (λ x. AllByRecursion (λ c. IsHeld (Star rp) g c x) (map pair_on (h ∷ hs)))
-        (λ x a. one_mapped (λ w. AllByRecursion (λ c. IsHeld w.join w.group c x) w.hops) plan.ways
-        (record { join = Star rp; group = g; first = first; hops = h ∷ hs }) a.ways among) ms n
-        (carried_network_settles d late lag bound started t came plan n ms q)
-
-    apart : (sender_of (root_of h hs) (forwarders h hs) == (f.self).router) ≡ false
-    apart =
-        subst (λ (y : Member). (sender_of (root_of h hs) (forwarders h hs) == y.router) ≡ false) (sym self)
-        (sender_apart g src rp d late bound started t came plan.lans n ms q.lans h hs (way.hops).1 (way.hops).2)
+pub carried_network_brings_nothing_else : CarriedNetworkBringsNothingElse
+carried_network_brings_nothing_else = none_besides

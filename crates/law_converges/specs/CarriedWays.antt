@@ -3,7 +3,7 @@
 use Rattle.std.{specs.{Prelude.{List, Some, [], false, ℕ, ◌<◌, ◌∷◌, ◌≡◌, ◌⊎◌}}}
 use Rattle.pim_model.{specs.{Network.{Move, Network, Station, station_at}, Sets.{assert_source, assert_star, is_loser, prunes}, State.iface_count}}
 use Rattle.law_streams.{specs.{InTimeJoins.{Pair, Star}, Passing.{Receiver, Tree}}}
-use Rattle.law_converges.{specs.{Carried.{Arrivals, Traffic}, CarriedLinks.pair_of, CarriedNetwork.{HopOn, IsQuietPlan, Plan, WayOver, number_of}, ComesOnce.{AreServedOnce, Forwarder, Forwards, HasOneOn, HoldsPastOn, Root}, Past.HoldsPast, PassedOnce.IsOnTree}}
+use Rattle.law_converges.{specs.{Carried.{Arrivals, EachMove, Traffic}, CarriedLinks.pair_of, CarriedNetwork.{HopOn, IsQuietPlan, Plan, WayOver, number_of}, ComesOnce.{AllCameDown, AreAlonePast, AreServedOnce, Forwarder, Forwards, HasOneOn, HoldsPastOn, Root}, Past.HoldsPast, PassedOnce.IsOnTree}}
 
 -- the next hop as a pair of routers
 abbrev pub pair_on : HopOn → Pair
@@ -49,12 +49,27 @@ abbrev pub IsOneWay : List WayOver → WayOver → Type 0
 IsOneWay [] w = ⊥
 IsOneWay (v ∷ vs) w = (v ≡ w) ⊎ IsOneWay vs w
 
+-- a way of a group, from the bound on on the group's tree, with a router below its first next hop that passes the packets on
+pub record IsOpen (g src rp first bound : ℕ) (started : ℕ → ℕ) (plan : Plan) (n : Network) (ms : List Move) (h : HopOn) (hs : List HopOn)
+    (f : Forwarder) : Type 0 where
+  pub among : IsOneWay plan.ways (record { join = Star rp; group = g; first = first; hops = h ∷ hs })
+  pub tree : HoldsPast started bound (AreOnTree g src h hs) n ms
+  pub self : f.self ≡ h.lower
+  pub above : f.above ≡ number_of h.lan
+  pub passes : HoldsPast started bound (Forwards g src f) n ms
+
 -- In a network that settles each packet that is brought to the last next hop of a way of a group, on a tree or in a Register, comes
 -- exactly once to the LAN to which the way's first router passes it on.
 abbrev pub CarriedNetworkServesOnce : Type 0
 CarriedNetworkServesOnce = (g src rp d late lag bound first : ℕ) (started : ℕ → ℕ) (t : Traffic) (came : Arrivals) (plan : Plan) (n : Network)
     (ms : List Move) (h : HopOn) (hs : List HopOn) (f : Forwarder) → IsQuietPlan d late lag bound started t came plan n ms
-    → IsOneWay plan.ways (record { join = Star rp; group = g; first = first; hops = h ∷ hs })
-    → HoldsPast started bound (AreOnTree g src h hs) n ms → f.self ≡ h.lower → f.above ≡ number_of h.lan
-    → HoldsPast started bound (Forwards g src f) n ms
+    → IsOpen g src rp first bound started plan n ms h hs f
     → HoldsPastOn started bound (AreServedOnce g src d started t (root_of h hs) f.below (f ∷ forwarders h hs)) n ms
+
+-- And where no other router sends the source's packets on the links of the way, nothing else of them comes there.
+abbrev pub CarriedNetworkBringsNothingElse : Type 0
+CarriedNetworkBringsNothingElse = (g src rp d late lag bound first : ℕ) (started : ℕ → ℕ) (t : Traffic) (came : Arrivals) (plan : Plan)
+    (n : Network) (ms : List Move) (h : HopOn) (hs : List HopOn) (f : Forwarder) → IsQuietPlan d late lag bound started t came plan n ms
+    → IsOpen g src rp first bound started plan n ms h hs f
+    → EachMove (AreAlonePast g src started bound (root_of h hs) f.below (f ∷ forwarders h hs)) n ms
+    → HoldsPastOn started bound (AllCameDown g src (root_of h hs) f.below (f ∷ forwarders h hs)) n ms

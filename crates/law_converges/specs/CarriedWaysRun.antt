@@ -2,8 +2,8 @@
 use Rattle.std.{specs.Prelude.{[], ◌∷◌}}
 use Rattle.pim_model.{specs.Network.{At, Network, moved, network_ran}}
 use Rattle.law_streams.{specs.Passing.{Receiver, Tree}}
-use Rattle.pim_runs.{specs.{InTime.started, ServedChain.{asked_group, content}}}
-use Rattle.law_converges.{specs.{Carried.EachMove, CarriedNetwork.HopOn, CarriedNetworkRun.{before, bound, by_register, high_lan, moves, nearer_on_high, rp_on_high, serving, settling, source_sends, source_there, traffic}, CarriedWays.{AreOnTree, root_of}, ComesOnce.{AllCameDown, AreAlonePast, ComesOnce, Forwarder, Forwards, HoldsPastOn}, Past.HoldsPast}}
+use Rattle.pim_runs.{specs.{Base.rp, InTime.started, ServedChain.{asked_group, content}}}
+use Rattle.law_converges.{specs.{Carried.EachMove, CarriedNetwork.HopOn, CarriedNetworkRun.{before, bound, by_register, high_lan, moves, nearer_on_high, plan, rp_on_high, serving, settling, source_sends, source_there, traffic}, CarriedWays.{IsOpen, root_of}, ComesOnce.{AllCameDown, AreAlonePast, ComesOnce, Forwarder, HoldsPastOn}}}
 
 -- the RP as the next hop of the first router, which passes the packets on to the first LAN's host
 abbrev pub its_hop : HopOn
@@ -13,10 +13,9 @@ abbrev pub to_host : Forwarder
 to_host = record { self = nearer_on_high; above = 2; down = 0; below = 1; tree = Tree.Shared; receiver = Receiver.Host }
 
 -- From the bound on nothing keeps the packets back, and no other router sends them on either LAN.
-abbrev pub PlanForwards : Type 0
-PlanForwards =
-    HoldsPast started bound (AreOnTree asked_group source_there its_hop []) before moves
-    × HoldsPast started bound (Forwards asked_group source_there to_host) before moves
+abbrev pub PlanIsOpen : Type 0
+PlanIsOpen =
+    IsOpen asked_group source_there rp 0 bound started plan before moves its_hop [] to_host
     × EachMove (AreAlonePast asked_group source_there started bound (root_of its_hop []) 1 (to_host ∷ [])) before moves
 
 -- when the source has sent its second packet

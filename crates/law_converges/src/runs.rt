@@ -1,5 +1,6 @@
 //! Networks that meet the premises of the laws, computed by the kernel.
 ghost use Rattle.law_converges.specs.CarriedNetworkRun.{OverrideComesInOrder, PlanIsQuiet, PlanSettles, PruneHasNoEffect};
+ghost use Rattle.law_converges.specs.CarriedWaysRun.{PlanBringsNothingElse, PlanIsOpen, PlanServesOnce};
 ghost use Rattle.law_converges.specs.JoinedWaysRun.{ChainComesInTime, ChainComesToBeJoined, ChainPassesOnce};
 ghost use Rattle.law_converges.specs.LeftGroupRun.{SilentGroupEnds};
 ghost use Rattle.law_converges.specs.LinkAssertsRun.{FartherLoses, NearerAnswers};
@@ -136,4 +137,19 @@ pub fn plan_is_quiet()
 /// winner sends what the assert is about, and the Prune has had no effect.
 pub fn plan_settles()
     ensures { PlanSettles }
+{}
+
+/// From the bound on the RP and the winner of the assert forward the source's packets, and no other router sends them on the LANs.
+pub fn plan_is_open()
+    ensures { PlanIsOpen }
+{}
+
+/// So the source's next packet, which a Register brings to the RP, is on the host's LAN in exactly one frame.
+pub fn plan_serves_once()
+    ensures { PlanServesOnce }
+{}
+
+/// And nothing else of the source comes there.
+pub fn plan_brings_nothing_else()
+    ensures { PlanBringsNothingElse }
 {}

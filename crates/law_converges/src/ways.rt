@@ -1,6 +1,6 @@
 //! What comes down a way.
 
-ghost use Rattle.law_converges.specs.CarriedWays.{CarriedNetworkServesOnce};
+ghost use Rattle.law_converges.specs.CarriedWays.{CarriedNetworkBringsNothingElse, CarriedNetworkServesOnce};
 ghost use Rattle.law_converges.specs.ComesOnce.{EachPacketComesOnce, NothingElseComes};
 
 /// Down a way of any length, from when its routers forward a source's packets on: of each packet that an event brings to the
@@ -14,18 +14,24 @@ pub fn each_packet_comes_once()
     ensures { EachPacketComesOnce }
 {}
 
-/// Nothing else of the source comes there: from when no other router sends its packets on the links of the way, as of the routers
-/// that lost an assert `NetworkSettles` says, each frame on the last link that holds a packet of the source comes, router by
-/// router, of a packet that an event brought to the root, or of a frame that was under way to begin with. What makes a router
-/// of the way send such a packet on the link below is a frame from the link above.
+/// Nothing else of the source comes there: from when no other router sends its packets on the links of the way, each frame on the
+/// last link that holds a packet of the source comes, router by router, of a packet that an event brought to the root, or of a
+/// frame that was under way by then. What makes a router of the way send such a packet on the link below is a frame from the link
+/// above. Of the routers that lost an assert on a link `NetworkSettles` says that they send none there of what it is about.
 pub fn nothing_else_comes()
     ensures { NothingElseComes }
 {}
 
 /// So it is in a network that settles, as `CarriedNetworkSettles` says, with its premises: down each of its ways of a group each
 /// packet of a source comes exactly once to the last LAN, from the bound on. The next hops hold the group by then. What is asked
-/// besides is that each of them is on the group's tree, as `HeldIsPassedOnce` asks, has one interface on the link, and that the
-/// first router of the way passes the packets on to the last LAN.
+/// besides is that each of them is on the group's tree, as `HeldIsPassedOnce` asks, but for the last, to which the packets are
+/// brought; that each has one interface on the link; and that the first router of the way passes the packets on to the last LAN.
 pub fn carried_network_serves_once()
     ensures { CarriedNetworkServesOnce }
+{}
+
+/// And nothing else of the source comes there, where no other router sends its packets on the links of the way, as
+/// `NothingElseComes` asks.
+pub fn carried_network_brings_nothing_else()
+    ensures { CarriedNetworkBringsNothingElse }
 {}

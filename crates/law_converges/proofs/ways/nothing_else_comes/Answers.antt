@@ -1,4 +1,4 @@
-use Rattle.law_converges.{proofs.{NothingElse.nothing_else_comes, CarriedWaysRun.plan_forwards}}
+use Rattle.law_converges.{proofs.NothingElse.nothing_else_comes}
 use Rattle.law_converges.proofs.ways.nothing_else_comes.Goals as goal
 
 pub returns : goal.returns
