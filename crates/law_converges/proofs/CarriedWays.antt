@@ -3,8 +3,8 @@ use Rattle.std.{proofs.Common.{◌≡◌, ◌∙◌, ℕ, ◌==◌, Bool, true, 
 use Rattle.pim_types.{specs.Keys.star_key}
 use Rattle.pim_model.{specs.{Network.{Move, Network, Station, moved, station_at}, Tables.row_at}}
 use Rattle.law_events.{specs.Rest.IsAtRest}
-use Rattle.law_streams.{specs.{InTimeJoins.{Always, AreThere, IsHeld, IsReady, Star}, Passing.{Passes, Receiver, Tree}}, proofs.Pairs.{ready_then, same_station}}
-use Rattle.law_converges.{specs.{Carried.{Arrivals, Carries, EachMove, IsCarried, Traffic}, CarriedNetwork.{HopIsQuiet, HopOn, HopsAreQuiet, IsQuietPlan, Lan, LanIsQuiet, Plan, WayIsQuiet, WayOver, layout_of, number_of, way_on}, CarriedWays.{AreOnTree, CarriedNetworkBringsNothingElse, CarriedNetworkServesOnce, IsClear, IsOneWay, IsOpen, forwarders, pair_on, root_of}, ComesOnce.{AllCameDown, AreAlonePast, AreForwarding, AreServedOnce, Forwarder, Forwards, HasOneOn, HearsAll, HoldsPastOn, Root, SendsDown, sender_of}, LinkDr.{IsOne, Member}, Past.HoldsPast, PassedOnce.IsOnTree, Settles.{HasSettled, Way, routers}}, proofs.{CarriedNetwork.{carried_network_settles, one_lan}, ComesOnce.each_packet_comes_once, NothingElse.nothing_else_comes, PassedOnce.passes, Past.{both_past, same_past, throughout_past}}}
+use Rattle.law_streams.{specs.{InTimeJoins.{AreThere, IsHeld, IsReady, Star}, Passing.{Receiver, Tree}}, proofs.Pairs.{ready_then, same_station}}
+use Rattle.law_converges.{specs.{Carried.{Arrivals, Carries, EachMove, Traffic}, CarriedNetwork.{HopIsQuiet, HopOn, HopsAreQuiet, IsQuietPlan, Lan, LanIsQuiet, Plan, WayIsQuiet, WayOver, layout_of, number_of, way_on}, CarriedWays.{AreOnTree, CarriedNetworkBringsNothingElse, CarriedNetworkServesOnce, IsClear, IsOneWay, IsOpen, forwarders, pair_on, root_of}, ComesOnce.{AllCameDown, AreAlonePast, AreForwarding, AreServedOnce, Forwarder, Forwards, HasOneOn, HearsAll, HoldsPastOn, SendsDown, sender_of}, LinkDr.{IsOne, Member}, Past.HoldsPast, PassedOnce.IsOnTree, Settles.{HasSettled, Way, routers}}, proofs.{CarriedNetwork.{carried_network_settles, one_lan}, ComesOnce.each_packet_comes_once, NothingElse.nothing_else_comes, PassedOnce.passes, Past.{both_past, same_past, throughout_past}}}
 
 -- ---- lists
 
@@ -222,9 +222,10 @@ module _ (g src rp d late lag bound first : ℕ) (started : ℕ → ℕ) (t : Tr
   served_once : HoldsPastOn started bound (AreServedOnce g src d started t (root_of h hs) f.below (f ∷ forwarders h hs)) n ms
   served_once =
       each_packet_comes_once g src d bound started t came (root_of h hs) f.below (f ∷ forwarders h hs) n ms ((way).addresses).multicast
-      ((way).addresses).goes_far ((its_lan g src rp d late bound started t came plan.lans n ms q.lans h ((way).hops).1).carried).sent
-      (hears g src rp d late bound started t came plan.lans n ms q.lans h ((way).hops).1 f o.self o.above,
-      all_hear g src rp d late bound started t came plan.lans n ms q.lans h hs ((way).hops).2)
+      ((way).addresses).goes_far ((its_lan g src rp d late bound started t came plan.lans n ms q.lans h ((way).hops).1).carried).sent (
+        hears g src rp d late bound started t came plan.lans n ms q.lans h ((way).hops).1 f o.self o.above,
+        all_hear g src rp d late bound started t came plan.lans n ms q.lans h hs ((way).hops).2,
+      )
       all_forward
 
   none_besides : EachMove (AreAlonePast g src started bound (root_of h hs) f.below (f ∷ forwarders h hs)) n ms

@@ -1,11 +1,11 @@
 -- The premises, computed by their tests, and so the packet is on the first LAN once.
-use Rattle.std.{proofs.Common.{◌≡◌, ◌∙◌, ℕ, ◌+◌, ◌*◌, ◌<◌, List, [], ◌∷◌, ◌++◌, drop, length, Bool, true, false, inl, Some, Ok, refl, sym, subst, lit≤}, specs.Option.option_map_or}
-use Rattle.pim_ip.{specs.Ipv4.{header_text, ipv4_reading, is_link_local, packet_of}}
+use Rattle.std.{proofs.Common.{◌≡◌, ℕ, ◌+◌, ◌*◌, List, [], ◌∷◌, ◌++◌, length, true, false, inl, Some, refl, sym, subst, lit≤}, specs.Option.option_map_or}
+use Rattle.pim_ip.{specs.Ipv4.{header_text, is_link_local, packet_of}}
 use Rattle.pim_types.{specs.declared.event.{Event.Event, EventKind.EventKind}}
 use Rattle.pim_model.{specs.{Network.{At, Move, Network, Sent, Station, event_of, frame_at, moved, network_ran, station_at}}}
 use Rattle.law_streams.{specs.{InTimeJoins.{IsReady, time_at}, Joins.join_packet, Roots.{IsBrought, IsRegister}}, proofs.{Computed.{stand, stands_there}, StreamRoots.each_register_is_brought}}
 use Rattle.pim_runs.{specs.{Base.rp, InTime.started, ServedChain.{asked_group, content}}, proofs.OnLiterals.machine_on_literals}
-use Rattle.law_converges.{specs.{Carried.EachMove, CarriedNetworkRun.{before, bound, by_register, lag, moves, none_came, plan, serving, settling, soon, source_sends, source_there, traffic}, CarriedWays.{AreOnTree, IsClear, pair_on, root_of}, CarriedWaysRun.{PlanBringsNothingElse, PlanIsOpen, PlanServesOnce, its_hop, sent_again, to_host}, ComesOnce.{AreAlonePast, AreServedOnce, ComesOnce, Forwards, HoldsPastOn, IsServedOnce}, Past.{ArePast, HoldsPast}}, proofs.{CarriedNetworkRun.{nearer_ready, nowhere, plan_is_quiet}, CarriedTests.{each_move_so, move_test}, CarriedWays.{carried_network_brings_nothing_else, carried_network_serves_once, ready_past}, Past.both_past, Tested.{past_so, past_test, then}, WayTests.{alone_so, alone_test, clear_at, clear_so, forwards_at, forwards_so, past_run, past_run_so, takes_so, takes_test}}}
+use Rattle.law_converges.{specs.{Carried.EachMove, CarriedNetworkRun.{before, bound, by_register, lag, moves, none_came, plan, serving, settling, soon, source_sends, source_there, traffic}, CarriedWays.{AreOnTree, IsClear, pair_on, root_of}, CarriedWaysRun.{PlanBringsNothingElse, PlanIsOpen, PlanServesOnce, its_hop, sent_again, to_host}, ComesOnce.{AreAlonePast, AreServedOnce, ComesOnce, Forwards, HoldsPastOn, IsServedOnce}, Past.{ArePast, HoldsPast}}, proofs.{CarriedNetworkRun.{nearer_ready, nowhere, plan_is_quiet}, CarriedTests.{each_move_so, move_test}, CarriedWays.{carried_network_brings_nothing_else, carried_network_serves_once, ready_past}, Past.both_past, Tested.{past_so, past_test}, WayTests.{alone_so, alone_test, clear_at, clear_so, forwards_at, forwards_so, past_run, past_run_so, takes_so, takes_test}}}
 
 -- ---- the tests
 
@@ -13,7 +13,7 @@ clear_passes : past_run started bound 2 (clear_at asked_group source_there (pair
 unfolding machine_on_literals join_packet
 clear_passes = refl
 
-forwards_passes : past_run started bound 2 (forwards_at asked_group source_there (to_host).self 2 0 1) before moves ≡ true
+forwards_passes : past_run started bound 2 (forwards_at asked_group source_there to_host) before moves ≡ true
 unfolding machine_on_literals join_packet
 forwards_passes = refl
 
@@ -38,11 +38,11 @@ on_tree =
 
 forwards : HoldsPast started bound (Forwards asked_group source_there to_host) before moves
 forwards =
-    both_past started bound (IsReady 0) (λ n. forwards_at asked_group source_there (to_host).self 2 0 1 n ≡ true)
-    (Forwards asked_group source_there to_host) (forwards_so asked_group source_there (to_host).self 2 0 1) moves before
+    both_past started bound (IsReady 0) (λ n. forwards_at asked_group source_there to_host n ≡ true)
+    (Forwards asked_group source_there to_host) (forwards_so asked_group source_there to_host refl) moves before
     (ready_past started bound 0 moves before nearer_ready)
-    (past_run_so started bound 2 (forwards_at asked_group source_there (to_host).self 2 0 1)
-    (λ n. forwards_at asked_group source_there (to_host).self 2 0 1 n ≡ true) (λ n e. e) moves before forwards_passes)
+    (past_run_so started bound 2 (forwards_at asked_group source_there to_host)
+    (λ n. forwards_at asked_group source_there to_host n ≡ true) (λ n e. e) moves before forwards_passes)
 
 both_moves : (P Q R : Network → Move → Type 0) → ((n : Network) (m : Move) → P n m → Q n m → R n m) → (ms : List Move) (n : Network)
     → EachMove P n ms → EachMove Q n ms → EachMove R n ms
@@ -62,8 +62,10 @@ alone : EachMove (AreAlonePast asked_group source_there started bound (root_of i
 alone =
     both_moves LowTest (λ n m. HighTest n m × TakesTest n m)
     (AreAlonePast asked_group source_there started bound (root_of its_hop []) 1 (to_host ∷ []))
-    (λ n m a b past. ((alone_so asked_group source_there 0 1 n m a, alone_so asked_group source_there 2 2 n m b.0),
-    (takes_so asked_group source_there to_host n m b.1, tt)))
+    (λ n m a b past. (
+      (alone_so asked_group source_there 0 1 n m a, alone_so asked_group source_there 2 2 n m b.0),
+      (takes_so asked_group source_there to_host n m b.1, tt),
+    ))
     moves before
     (each_move_so (alone_test asked_group source_there 0 1) LowTest (λ n m e. e) moves before low_alone)
     (both_moves HighTest TakesTest (λ n m. HighTest n m × TakesTest n m) (λ n m a b. (a, b)) moves before

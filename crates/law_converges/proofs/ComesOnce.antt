@@ -1,11 +1,11 @@
 -- Down a way of any length: what each router of it takes, and makes of it, once.
-use Rattle.std.{proofs.{Common.{◌≡◌, ◌∙◌, ℕ, zero, suc, ◌+◌, ◌*◌, ◌-◌, ◌<◌, ◌≤◌, ◌==◌, ◌&&◌, Bool, true, false, cond, List, [], ◌∷◌, length, ◌⊎◌, inl, inr, Option, Some, None, Ok, refl, sym, ap, subst, arith, eq-eqb, eqb-true}}, specs.{List.{AllByRecursion, Contains}, Option.option_map_or, Prelude.{option_and_then, slice_get}}}
+use Rattle.std.{proofs.{Common.{◌≡◌, ◌∙◌, ℕ, suc, ◌+◌, ◌*◌, ◌<◌, ◌≤◌, ◌==◌, Bool, true, false, cond, List, [], ◌∷◌, length, ◌⊎◌, inl, inr, Option, Some, None, Ok, refl, sym, ap, subst, arith, eq-eqb, eqb-true}}, specs.{List.{AllByRecursion}, Option.option_map_or, Prelude.{option_and_then}}}
 use Rattle.pim_ip.{specs.{Ipv4.{Packet, copy_text, frame_limit, ipv4_reading, is_link_local, is_multicast, protocol_igmp}, View.copied}}
 use Rattle.pim_types.{specs.declared.{event.{Event.Event, EventKind.EventKind}}}
 use Rattle.pim_model.{specs.{declared.accepted.Accepted.Accepted, Cause.{done_as, packet_in}, Network.{Deliver, Move, bad_move, moved_at, stepped, Network, Sent, Station, event_of, frame_at, frame_event, is_on_frame_link, moved, network_ran, station_at}, State.{State, is_own}, Tables.has_row, Step.{Answered, change, done, step}, Writing.on_link}}
 use Rattle.law_settled.{proofs.{ListLaws.each_more, Unsettled.{Unsettled, settling_leaves}}}
-use Rattle.law_streams.{specs.{Copies.happens, Flows.IsCarried as Carried, InTimeJoins.{Always, IsBy, time_at}, Passing.{Passes, Receiver, Tree}, Roots.{ArrivesFor, InRegister, IsBrought, OnTree}, Served.IsServed, StreamRoots.Sends}, proofs.{Climbing.frames_stay, Deliveries.{IsNewOn, IsStepped, is_delivered, is_stepped}, EndSoon.change_present, Forwards.{copy_fits, copy_reads_lower, data_done, from_copies}, Leaves.taken_is_done, Made.step_taken, Pairs.{Steps, frame_stays, one_router, same_station}, Room.has_room, Roots.leaves_root, Serving.passing_serves}}
-use Rattle.law_converges.{specs.{Carried.{Arrivals, Carries, ComesInTurn, EachMove, IsFor, IsSentBy, Traffic, arrived}, ComesOnce.{AreForwarding, AreServedOnce, ComesDown, ComesOf, ComesOnce, EachMoveOn, EachPacketComesOnce, Forwarder, Forwards, HasOneOn, HearsAll, HoldsPastOn, IsCopied, IsPassedOn, IsServedOnce, Root, SendsDown, SomeMove, sender_of}, LinkDr.{IsOne, Member}, Past.{ArePast, HoldsPast}}, proofs.{Carried.{Brought, brings, came_here, comes, more_frames, soon_first}, JoinClock.step_later, LinkRptOrder.there_is, OneCopy.one_copy, TakesOver.moved_so}}
+use Rattle.law_streams.{specs.{Copies.happens, InTimeJoins.{Always, IsBy, time_at}, Passing.{Passes}, Roots.{ArrivesFor, InRegister, IsBrought, OnTree}, Served.IsServed, StreamRoots.Sends}, proofs.{Climbing.frames_stay, Deliveries.{IsNewOn, IsStepped, is_delivered, is_stepped}, EndSoon.change_present, Forwards.{copy_fits, copy_reads_lower, data_done, from_copies}, Leaves.taken_is_done, Made.step_taken, Pairs.{Steps, frame_stays, one_router, same_station}, Room.has_room, Roots.leaves_root, Serving.passing_serves}}
+use Rattle.law_converges.{specs.{Carried.{Arrivals, Carries, ComesInTurn, EachMove, IsFor, IsSentBy, Traffic, arrived}, ComesOnce.{AreForwarding, AreServedOnce, ComesOf, ComesOnce, EachPacketComesOnce, Forwarder, Forwards, HasOneOn, HearsAll, HoldsPastOn, IsCopied, IsPassedOn, Root, SendsDown, SomeMove, sender_of}, LinkDr.{IsOne, Member}, Past.{ArePast, HoldsPast}}, proofs.{Carried.{Brought, brings, came_here, comes, more_frames, soon_first}, JoinClock.step_later, LinkRptOrder.there_is, OneCopy.one_copy, TakesOver.moved_so}}
 
 -- ---- a data packet takes no time
 

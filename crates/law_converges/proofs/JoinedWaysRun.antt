@@ -9,15 +9,15 @@ accepted_third : config_test third ≡ Ok tt
 unfolding machine_on_literals
 accepted_third = refl
 
-first_ready : IsReady 0 unjoined
+pub first_ready : IsReady 0 unjoined
 unfolding station_at
 first_ready = ready_by unjoined 0 (3 ∷ 1 ∷ []) first first_asks accepted_first refl
 
-second_ready : IsReady 1 unjoined
+pub second_ready : IsReady 1 unjoined
 unfolding station_at
 second_ready = ready_by unjoined 1 (1 ∷ 2 ∷ []) second second_waits accepted_second refl
 
-third_ready : IsReady 2 unjoined
+pub third_ready : IsReady 2 unjoined
 unfolding station_at
 third_ready = ready_by unjoined 2 (2 ∷ []) third third_waits accepted_third refl
 

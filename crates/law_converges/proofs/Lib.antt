@@ -55,4 +55,5 @@ pub mod ClaimTests
 pub mod WishTests
 pub mod WayTests
 pub mod CarriedWaysRun
+pub mod ComesOnceRun
 pub mod JoinedWaysRun

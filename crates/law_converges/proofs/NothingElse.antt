@@ -1,10 +1,10 @@
 -- Nothing of a source is on the last link of a way but what comes down the way.
-use Rattle.std.{proofs.{Common.{◌≡◌, ◌∙◌, ℕ, zero, suc, ◌+◌, ◌<◌, ◌≤◌, ◌==◌, ◌&&◌, nat_lt, Bool, true, false, cond, List, [], ◌∷◌, ◌++◌, length, map, ◌⊎◌, inl, inr, Option, Some, None, is_some, Ok, refl, sym, ap, subst, arith, eqb-true}, lemmas.{Bool.Decides.nat_tests, List.Elements.recursion_from_All}}, specs.{List.{AllByRecursion, Contains}, Option.option_map_or, Prelude.{option_and_then, slice_get}}}
+use Rattle.std.{proofs.{Common.{◌≡◌, ◌∙◌, ℕ, zero, suc, ◌<◌, ◌≤◌, ◌==◌, ◌&&◌, nat_lt, Bool, true, false, cond, List, [], ◌∷◌, ◌++◌, length, map, ◌⊎◌, inl, inr, Option, Some, None, is_some, Ok, refl, sym, ap, subst, arith, eqb-true}, lemmas.{Bool.Decides.nat_tests, List.Elements.recursion_from_All}}, specs.{List.{AllByRecursion, Contains}, Prelude.{option_and_then, slice_get}}}
 use Rattle.pim_ip.{specs.{Ipv4.{Packet, copy_text, ipv4_reading, is_link_local, protocol_igmp}, View.copied}}
 use Rattle.pim_types.{specs.declared.{event.{Event.Event, EventKind.EventKind}, outcome.Emission.Emission}}
-use Rattle.pim_model.{specs.{Cause.{done_as, packet_in}, Network.{Deliver, Move, Network, Sent, Station, bad_move, event_of, frame_at, frame_event, is_on_frame_link, moved, moved_at, network_ran, sent_by, station_at, stepped}, State.State, Step.step, Tables.same_option, Writing.{on_link, pim_to}}}
-use Rattle.law_streams.{specs.{Brought.{BringsPacket, InRegister, OnLink}, Copies.{IsLower, IsLowerInside, copies_at, happens}, Data.{IsMessage, IsOfAKind}, InTimeJoins.Always}, proofs.{Brought.packet_comes_from_event, Climbing.frames_stay, Copies.each_emission_is_of_a_kind, Forwards.copy_reads_lower, Pairs.same_station}}
-use Rattle.law_converges.{specs.{Carried.EachMove, ComesOnce.{AllCameDown, AreAlone, AreAlonePast, AreForwarding, CameDown, Forwarder, Forwards, HoldsPastOn, IsAlone, IsCopied, IsFromAbove, IsOfSource, IsPassedOn, NothingElseComes, Root, SomeMove, TakesFromAbove}, Past.{ArePast, HoldsPast}}, proofs.{Carried.more_frames, ComesOnce.{always_more, from_then_on, past_then}, LinkRptOrder.{Got, got_below, none_behind}, OneCopy.{Behind, behind, isnt_message, isnt_register}, TakesOver.moved_so}}
+use Rattle.pim_model.{specs.{Cause.{done_as, packet_in}, Network.{Deliver, Move, Network, Sent, Station, event_of, frame_at, frame_event, is_on_frame_link, moved, moved_at, network_ran, sent_by, station_at, stepped}, Step.step, Tables.same_option, Writing.{on_link}}}
+use Rattle.law_streams.{specs.{Brought.{BringsPacket, InRegister, OnLink}, Copies.{copies_at, happens}, Data.{IsOfAKind}, InTimeJoins.Always}, proofs.{Brought.packet_comes_from_event, Climbing.frames_stay, Copies.each_emission_is_of_a_kind, Forwards.copy_reads_lower, Pairs.same_station}}
+use Rattle.law_converges.{specs.{Carried.EachMove, ComesOnce.{AllCameDown, AreAlone, AreAlonePast, AreForwarding, CameDown, Forwarder, Forwards, HoldsPastOn, IsAlone, IsCopied, IsFromAbove, IsOfSource, IsPassedOn, NothingElseComes, Root, SomeMove, TakesFromAbove}, Past.{ArePast, HoldsPast}}, proofs.{ComesOnce.{always_more, from_then_on, past_then}, LinkRptOrder.{Got, got_below, none_behind}, OneCopy.{Behind, behind, isnt_message, isnt_register}, TakesOver.moved_so}}
 
 contradicts : true ≡ false → ⊥
 contradicts e = cc e
@@ -363,8 +363,7 @@ module _ (g src : ℕ) (far : is_link_local g ≡ false) where
         (some_move number (its_frame link number bytes its) (λ n. (f.below ≡ link) × Forwards g src f n) (Alone f link) (IsMade f number)
         (λ n m p q lt at. made link number bytes its f p.0 n m p.1 q.0 q.1 lt at) ms n
         (always_more (AreForwarding g src root link (f ∷ fs)) (λ n. (f.below ≡ link) × Forwards g src f n) (λ n a. (a.0, a.1)) ms n way)
-        (each_move_more (AllAlone root link (f ∷ fs)) (Alone f link) (λ n m x. ((x.0).0, (x.1).0)) ms n alone) new got) in
-        (
+        (each_move_more (AllAlone root link (f ∷ fs)) (Alone f link) (λ n m x. ((x.0).0, (x.1).0)) ms n alone) new got) in (
           last.frame,
           last.passed,
           or_before last.frame (length n.frames) (λ lt. all_came fs f.above ms n

@@ -1,10 +1,8 @@
 -- An event puts at most one copy of a packet on a link on which its router has one interface.
 use Rattle.std.{proofs.{Common.{◌≡◌, ◌∙◌, ℕ, zero, suc, ◌+◌, ◌<◌, ◌≤◌, ◌==◌, true, false, List, [], ◌∷◌, ◌++◌, length, map, Option, Some, None, Ok, refl, sym, ap, subst, arith}}, specs.{List.{AllByRecursion, Sorted.IsStrictlySortedBy}, Ordering.nat_cmp, Prelude.slice_get, declared.cmp.Ordering.Ordering}}
-use Rattle.byteorder.{specs.Endian.{big_bytes, big_from}}
-use Rattle.pim_ip.{specs.{Ipv4.{Packet, all_pim_routers, copy_text, header_text, igmp_packet_text, ipv4_reading, is_link_local, packet_of, pim_packet_text, protocol_igmp, protocol_of, router_alert}, Checksum.with_checksum, View.copied}}
+use Rattle.pim_ip.{specs.{Ipv4.{Packet, all_pim_routers, copy_text, header_text, igmp_packet_text, ipv4_reading, is_link_local, packet_of, pim_packet_text, protocol_igmp}, Checksum.with_checksum, View.copied}}
 use Rattle.pim_types.{specs.declared.{event.Event.Event, outcome.Emission.Emission}}
-use Rattle.igmp_wire.{specs.Queries.query_text}
-use Rattle.pim_model.{specs.{Cause.{done_as, packet_in}, Messages.Message, Network.{Move, Network, Sent, Station, event_of, frame_at, moved, sent_by, station_at, stepped}, State.{InterfaceTable, State}, Step.step, Writing.{emission_of, hello_emission, on_link, pim_on_link, pim_to}}}
+use Rattle.pim_model.{specs.{Cause.{done_as, packet_in}, Messages.Message, Network.{Move, Network, Sent, Station, event_of, frame_at, moved, sent_by, station_at, stepped}, State.{InterfaceTable}, Step.step, Writing.{emission_of, hello_emission, on_link, pim_on_link, pim_to}}}
 use Rattle.law_settled.{proofs.{ListLaws.{each_append, each_more}, ReadPackets.packet_is}}
 use Rattle.law_streams.{specs.{Copies.happens, Data.IsMessage}, proofs.{Forwards.copy_reads_lower, Links.on_each, Made.{IsRegister, Made, step_made}, Pairs.same_station}}
 use Rattle.law_converges.{specs.ComesOnce.{HasOneOn, IsCopied}, proofs.TakesOver.moved_so}

@@ -1,13 +1,13 @@
 -- Whether routers of a way forward a source's packets past a bound, and no others send them: tests, and that where they pass it is so.
-use Rattle.std.{proofs.{Common.{◌≡◌, ◌∙◌, ℕ, zero, suc, ◌+◌, ◌<◌, ◌≤◌, ◌==◌, nat_le, nat_lt, not, ◌&&◌, ◌||◌, Bool, true, false, List, [], ◌∷◌, length, Option, Some, None, Ok, refl, sym, ap, subst, arith, eqb-true, eq-eqb}, lemmas.Bool.Decides.nat_tests}, specs.{List.Contains, Option.option_map_or, Prelude.slice_get}}
+use Rattle.std.{proofs.{Common.{◌≡◌, ◌∙◌, ℕ, zero, suc, ◌+◌, ◌<◌, ◌≤◌, ◌==◌, nat_le, nat_lt, not, ◌&&◌, ◌||◌, Bool, true, false, List, [], ◌∷◌, length, Option, Some, None, is_some, refl, sym, ap, subst, arith, eqb-true, eq-eqb}}, specs.{List.Contains, Option.option_map_or, Prelude.slice_get}}
 use Rattle.byteorder.{specs.Endian.big_from}
-use Rattle.pim_ip.{specs.{Ipv4.{Packet, ipv4_reading, packet_of}}}
-use Rattle.pim_types.{specs.declared.event.Event.Event}
-use Rattle.pim_model.{specs.{Full.source_is_full, Network.{At, Deliver, DeliverUnicast, Move, Network, Sent, Station, event_of, frame_at, moved, station_at}, Sets.{assert_source, assert_star, is_loser, prunes, spt_bit}, State.{iface_count, is_own, is_up}, Tables.same_option, Unicast.{is_rpf_interface, is_rpf_interface_rp}, Writing.on_link}}
+use Rattle.pim_ip.{specs.{Ipv4.{Packet, packet_of}}}
+use Rattle.pim_types.{specs.{Keys.star_key, declared.{event.Event.Event, fact.DownstreamRow.DownstreamRow}}}
+use Rattle.pim_model.{specs.{Full.source_is_full, Network.{At, Deliver, DeliverUnicast, Move, Network, Sent, Station, event_of, moved, station_at}, Sets.{assert_source, assert_star, is_loser, prunes, spt_bit}, State.{iface_count, is_own, is_up}, Tables.{row_at, same_option}, Unicast.{is_rpf_interface, is_rpf_interface_rp}, Writing.on_link}}
 use Rattle.law_settled.{proofs.ReadPackets.packet_is}
 use Rattle.law_events.{specs.Rest.IsAtRest}
-use Rattle.law_streams.{specs.{Copies.copies_at, InTimeJoins.{IsReady, Pair, time_at}, Passing.{Receiver, Tree, is_asked}}, proofs.{Deliveries.{IsNewOn, IsStepped, is_stepped}, Forwards.from_copies, Pairs.same_station}}
-use Rattle.law_converges.{specs.{CarriedWays.IsClear, ComesOnce.{Forwarder, Forwards, HasOneOn, IsAlone, IsFromAbove, IsOfSource, TakesFromAbove}, LinkDr.Member, Past.{ArePast, HoldsPast}}, proofs.{TakesOver.moved_so, Tested.{Found, after_so, each_found, each_new, else_so, found, le_so, lt_so, moves_so, off_so, or_else, run_test, same_so, then}}}
+use Rattle.law_streams.{specs.{Copies.copies_at, InTimeJoins.{IsReady, Pair, time_at}, Passing.{AreMatched, GoesOut, IsJoinedThere, IsWanted, Passes, Receiver, Tree, is_asked}}, proofs.{Deliveries.{IsNewOn, IsStepped, is_stepped}, Forwards.from_copies, Pairs.same_station}}
+use Rattle.law_converges.{specs.{CarriedWays.IsClear, ComesOnce.{Forwarder, Forwards, HasOneOn, IsAlone, IsFromAbove, IsOfSource, Root, SendsDown, TakesFromAbove}, Past.{ArePast, HoldsPast}}, proofs.{TakesOver.moved_so, Tested.{Found, after_so, each_found, each_new, else_so, found, le_so, lt_so, moves_so, off_so, or_else, run_test, same_so, then}}}
 
 -- ---- past a bound
 
@@ -74,47 +74,114 @@ one_on_so down link st e =
     plain : (i : ℕ) → i + 0 ≡ down → i ≡ down
     plain i h = omega (arith, h)
 
--- ---- a router of a way, for a host
+-- ---- a router of a way
 
 module _ (g src : ℕ) where
-  module _ (self : Member) (above down below : ℕ) where
-    abbrev to : Forwarder
-    to = record { self = self; above = above; down = down; below = below; tree = Tree.Shared; receiver = Receiver.Host }
+  -- a router or a host wants the packets on an interface
+  abbrev wanted_test : Receiver → Station → ℕ → Bool
+  wanted_test Receiver.Router st j = is_some (row_at (st.state).downstream (star_key j g)) && not (prunes st.state g src j)
+  wanted_test Receiver.Host st j = is_asked st.state g src j
+  wanted_test Receiver.SourceRouter st j = false
+
+  joined_so : (st : Station) (j : ℕ) → wanted_test Receiver.Router st j ≡ true → IsJoinedThere st.state g src j
+  joined_so st j e = then e (λ there unpruned. go (row_at (st.state).downstream (star_key j g)) refl there (off_so _ unpruned))
+    where
+      go : (o : Option DownstreamRow) → row_at (st.state).downstream (star_key j g) ≡ o → is_some o ≡ true → prunes st.state g src j ≡ false
+          → IsJoinedThere st.state g src j
+      go None is e unpruned = cc e
+      go (Some row) is e unpruned = record { row = row; found = is; none_prunes = unpruned }
+
+  wanted_so : (receiver : Receiver) (st : Station) (j : ℕ) → wanted_test receiver st j ≡ true → IsWanted receiver st.state g src j
+  wanted_so Receiver.Router st j e = joined_so st j e
+  wanted_so Receiver.Host st j e = e
+  wanted_so Receiver.SourceRouter st j e = cc e
+
+  -- what comes on the shared tree is for a router that joined the group, or for a host
+  abbrev is_matched : Receiver → Bool
+  is_matched Receiver.SourceRouter = false
+  is_matched receiver = true
+
+  matched_so : (receiver : Receiver) → is_matched receiver ≡ true → AreMatched Tree.Shared receiver
+  matched_so Receiver.Router e = tt
+  matched_so Receiver.Host e = tt
+  matched_so Receiver.SourceRouter e = cc e
+
+  -- the packets go out there
+  abbrev out_test : Receiver → (down : ℕ) → Station → Bool
+  out_test receiver down st =
+      nat_lt down (iface_count st.state) && (not (is_loser (assert_star st.state g down))
+      && (not (is_loser (assert_source st.state g src down)) && wanted_test receiver st down))
+
+  out_so : (receiver : Receiver) (down : ℕ) (st : Station) → out_test receiver down st ≡ true → GoesOut receiver st.state g src down
+  out_so receiver down st e =
+      then e (λ configured e. then e (λ group e. then e (λ source wanted. record {
+        configured = lt_so _ _ configured;
+        group = off_so _ group;
+        source = off_so _ source;
+        wanted = wanted_so receiver st down wanted;
+      })))
+
+  module _ (f : Forwarder) where
+    -- its interfaces are on these links
+    abbrev linked_test : Station → Bool
+    linked_test st = same_option (slice_get st.links (f.self).iface) (Some f.above) && one_on f.down f.below st
 
     abbrev forwards_station : Station → Bool
     forwards_station st =
-        nat_lt self.iface (iface_count st.state) && (is_up st.state self.iface && (not (is_own st.state src)
-        && (is_rpf_interface_rp st.state g self.iface && (not (spt_bit st.state g src && not (is_rpf_interface st.state src self.iface))
-        && (nat_lt down (iface_count st.state) && (not (is_loser (assert_star st.state g down))
-        && (not (is_loser (assert_source st.state g src down)) && (is_asked st.state g src down && (not (source_is_full st.state g src)
-        && (not (down == self.iface) && (same_option (slice_get st.links self.iface) (Some above) && one_on down below st)))))))))))
+        nat_lt (f.self).iface (iface_count st.state) && (is_up st.state (f.self).iface && (not (is_own st.state src)
+        && (is_rpf_interface_rp st.state g (f.self).iface
+        && (not (spt_bit st.state g src && not (is_rpf_interface st.state src (f.self).iface))
+        && (is_matched f.receiver && (out_test f.receiver f.down st && (not (source_is_full st.state g src)
+        && (not (f.down == (f.self).iface) && linked_test st))))))))
 
     abbrev pub forwards_at : Network → Bool
-    forwards_at n = option_map_or forwards_station (station_at n self.router) false
+    forwards_at n = option_map_or forwards_station (station_at n (f.self).router) false
 
-    pub forwards_so : (n : Network) → IsReady self.router n → forwards_at n ≡ true → Forwards g src to n
-    forwards_so n ready e =
-        let f : Found Station forwards_station (station_at n self.router) = found Station forwards_station (station_at n self.router) e in
-        then f.passes (λ up e. then e (λ is_up e. then e (λ foreign e. then e (λ on e. then e (λ too e. then e (λ configured e. then e (λ group e.
-        then e (λ source e. then e (λ asked e. then e (λ room e. then e (λ apart e. then e (λ linked one. record {
-          station = f.it;
-          there = f.is;
-          passes = record {
-            settled = (subst (λ (z : Station). IsAtRest z.state) (same_station ready.there f.is) ready.at_rest).settled;
-            matched = tt;
+    pub forwards_so : f.tree ≡ Tree.Shared → (n : Network) → IsReady (f.self).router n → forwards_at n ≡ true → Forwards g src f n
+    forwards_so shared n ready e =
+        let i : Found Station forwards_station (station_at n (f.self).router) = found Station forwards_station (station_at n (f.self).router) e in
+        then i.passes (λ up e. then e (λ is_up e. then e (λ foreign e. then e (λ on e. then e (λ too e. then e (λ matched e. then e (λ out e. then e (λ room e.
+        then e (λ apart e. then e (λ linked one. record {
+          station = i.it;
+          there = i.is;
+          passes = subst (λ (t : Tree). Passes t f.receiver (i.it).state g src (f.self).iface f.down) (sym shared) (record {
+            settled = (subst (λ (z : Station). IsAtRest z.state) (same_station ready.there i.is) ready.at_rest).settled;
+            matched = matched_so f.receiver matched;
             comes_in = record {
               configured = lt_so _ _ up;
               is_up = is_up;
               foreign = off_so _ foreign;
               on = record { on_tree = on; source_too = off_so _ too };
             };
-            goes_out = record { configured = lt_so _ _ configured; group = off_so _ group; source = off_so _ source; wanted = asked };
+            goes_out = out_so f.receiver f.down i.it out;
             room = off_so _ room;
             on = off_so _ apart;
-          };
+          });
           above = same_so _ _ linked;
-          below = one_on_so down below f.it one;
-        }))))))))))))
+          below = one_on_so f.down f.below i.it one;
+        }))))))))))
+
+  -- ---- the root
+
+  module _ (root : Root) where
+    abbrev sends_station : Station → Bool
+    sends_station st = out_test Receiver.Router root.down st && one_on root.down root.below st
+
+    abbrev pub sends_at : Network → Bool
+    sends_at n = option_map_or sends_station (station_at n root.router) false
+
+    pub sends_so : (n : Network) → IsReady root.router n → sends_at n ≡ true → SendsDown g src root n
+    sends_so n ready e =
+        let i : Found Station sends_station (station_at n root.router) = found Station sends_station (station_at n root.router) e in
+        then i.passes (λ out one. record {
+          station = i.it;
+          there = i.is;
+          sends = record {
+            settled = (subst (λ (z : Station). IsAtRest z.state) (same_station ready.there i.is) ready.at_rest).settled;
+            goes_out = out_so Receiver.Router root.down i.it out;
+          };
+          below = one_on_so root.down root.below i.it one;
+        })
 
   -- ---- a next hop
 

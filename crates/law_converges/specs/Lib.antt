@@ -31,3 +31,4 @@ pub mod CarriedNetwork
 pub mod CarriedWays
 pub mod CarriedNetworkRun
 pub mod CarriedWaysRun
+pub mod ComesOnceRun

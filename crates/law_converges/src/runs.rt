@@ -1,6 +1,7 @@
 //! Networks that meet the premises of the laws, computed by the kernel.
 ghost use Rattle.law_converges.specs.CarriedNetworkRun.{OverrideComesInOrder, PlanIsQuiet, PlanSettles, PruneHasNoEffect};
 ghost use Rattle.law_converges.specs.CarriedWaysRun.{PlanBringsNothingElse, PlanIsOpen, PlanServesOnce};
+ghost use Rattle.law_converges.specs.ComesOnceRun.{ChainForwards, ChainServesOnce};
 ghost use Rattle.law_converges.specs.JoinedWaysRun.{ChainComesInTime, ChainComesToBeJoined, ChainPassesOnce};
 ghost use Rattle.law_converges.specs.LeftGroupRun.{SilentGroupEnds};
 ghost use Rattle.law_converges.specs.LinkAssertsRun.{FartherLoses, NearerAnswers};
@@ -152,4 +153,14 @@ pub fn plan_serves_once()
 /// And nothing else of the source comes there.
 pub fn plan_brings_nothing_else()
     ensures { PlanBringsNothingElse }
+{}
+
+/// The chain's routers forward the sender's packets once the group is joined all the way, and their links carry what is sent.
+pub fn chain_forwards()
+    ensures { ChainForwards }
+{}
+
+/// So a packet that a Register brings to the RP is on the host's link, two routers further, in exactly one frame.
+pub fn chain_serves_once()
+    ensures { ChainServesOnce }
 {}
