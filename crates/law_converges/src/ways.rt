@@ -7,7 +7,7 @@ ghost use Rattle.law_converges.specs.ComesOnce.{EachPacketComesOnce, NothingElse
 /// way's top router, its root, on a tree or in a Register, exactly one frame on the last link comes. The root puts one copy on
 /// its link; each further router takes the frame from the link above once, and puts one copy on the link below, within d of when
 /// the frame was sent. The frame on the last link has the packet's payload, and its TTL is lower by one for each router; that it
-/// is above 1 there is a premise, and that the moves go so far. Each of the routers has one interface on the link below, and
+/// is above 0 there is a premise, and that the moves go so far. Each of the routers has one interface on the link below, and
 /// passes the source's packets to it; the links carry all frames to all of their routers, in order and within d. It says
 /// nothing of what others send there.
 pub fn each_packet_comes_once()
