@@ -3,8 +3,8 @@ use Rattle.std.{proofs.{Common.{◌≡◌, ◌∙◌, ℕ, zero, suc, ◌<◌, �
 use Rattle.pim_ip.{specs.{Ipv4.{Packet, copy_text, ipv4_reading, is_link_local, protocol_igmp}, View.copied}}
 use Rattle.pim_types.{specs.declared.{event.{Event.Event, EventKind.EventKind}, outcome.Emission.Emission}}
 use Rattle.pim_model.{specs.{Cause.{done_as, packet_in}, Network.{Deliver, Move, Network, Sent, Station, event_of, frame_at, frame_event, is_on_frame_link, moved, moved_at, network_ran, sent_by, station_at, stepped}, Step.step, Tables.same_option, Writing.{on_link}}}
-use Rattle.law_streams.{specs.{Brought.{BringsPacket, InRegister, OnLink}, Copies.{copies_at, happens}, Data.{IsOfAKind}, InTimeJoins.Always}, proofs.{Brought.packet_comes_from_event, Climbing.frames_stay, Copies.each_emission_is_of_a_kind, Forwards.copy_reads_lower, Pairs.same_station}}
-use Rattle.law_converges.{specs.{Carried.EachMove, ComesOnce.{AllCameDown, AreAlone, AreAlonePast, AreForwarding, CameDown, Forwarder, Forwards, HoldsPastOn, IsAlone, IsCopied, IsFromAbove, IsOfSource, IsPassedOn, NothingElseComes, Root, SomeMove, TakesFromAbove}, Past.{ArePast, HoldsPast}}, proofs.{ComesOnce.{always_more, from_then_on, past_then}, LinkRptOrder.{Got, got_below, none_behind}, OneCopy.{Behind, behind, isnt_message, isnt_register}, TakesOver.moved_so}}
+use Rattle.law_streams.{specs.{Brought.{BringsPacket, InRegister, OnLink}, Copies.{copies_at, happens}, Data.{IsOfAKind}, InTimeJoins.Always}, proofs.{Brought.packet_comes_from_event, Climbing.frames_stay, Copies.each_emission_is_of_a_kind, Forwards.copy_reads_lower, Pairs.{frame_stays, same_station}}}
+use Rattle.law_converges.{specs.{Carried.EachMove, ComesOnce.{AllCameDown, AreAlone, AreAlonePast, AreForwarding, CameDown, ComesOf, Forwarder, Forwards, FrameComesOfOne, HoldsPastOn, IsAlone, IsCopied, IsFromAbove, IsOfSource, IsPassedOn, NothingElseComes, Root, SomeMove, TakesFromAbove}, Past.{ArePast, HoldsPast}}, proofs.{ComesOnce.{always_more, from_then_on, past_then}, LinkRptOrder.{Got, got_below, none_behind, there_is}, OneCopy.{Behind, behind, isnt_message, isnt_register}, TakesOver.moved_so}}
 
 contradicts : true ≡ false → ⊥
 contradicts e = cc e
@@ -155,6 +155,36 @@ module _ (number : ℕ) (f : Sent) (P : Network → Type 0) (Q R : Network → M
       go rest true lt = inr (rest (lt_so _ _ lt))
       go rest false le =
           inl (does n m p.0 q.0 new (there number refl (le_so _ _ le)))
+
+-- ---- a frame is new once
+
+module _ (f : Forwarder) (k : ℕ) where
+  -- one that is there isn't made any more
+  never_new : (b : ℕ) (x : Sent) (ms : List Move) (n : Network) → frame_at n k ≡ Some x → SomeMove (IsPassedOn f b k) n ms → ⊥
+  never_new b x [] n there s = absurd s
+  never_new b x (m ∷ ms) n there (inl p) = below (there_is n k x there) (p.copied).later
+    where
+      below : {i j : ℕ} → i ≤ j → j < i → ⊥
+      below le lt = omega (arith, le, lt)
+  never_new b x (m ∷ ms) n there (inr s) = never_new b x ms (moved n m).1 (frame_stays n m k x there) s
+
+  of_one_move : (a b : ℕ) (m : Move) (n : Network) → IsPassedOn f a k n m → IsPassedOn f b k n m → a ≡ b
+  of_one_move a b m n x y = same (sym x.is ∙ y.is)
+    where
+      same : Deliver (f.self).router (f.self).iface a x.draw ≡ Deliver (f.self).router (f.self).iface b y.draw → a ≡ b
+      same e = cc e
+
+  one_source : (a b : ℕ) (ms : List Move) (n : Network) → SomeMove (IsPassedOn f a k) n ms → SomeMove (IsPassedOn f b k) n ms → a ≡ b
+  one_source a b [] n x y = absurd x
+  one_source a b (m ∷ ms) n (inl x) (inl y) = of_one_move a b m n x y
+  one_source a b (m ∷ ms) n (inl x) (inr y) = absurd (never_new b _ ms (moved n m).1 (x.copied).framed y)
+  one_source a b (m ∷ ms) n (inr x) (inl y) = absurd (never_new a _ ms (moved n m).1 (y.copied).framed x)
+  one_source a b (m ∷ ms) n (inr x) (inr y) = one_source a b ms (moved n m).1 x y
+
+pub frame_comes_of_one : FrameComesOfOne
+frame_comes_of_one [] a b k n ms x y = x ∙ sym y
+frame_comes_of_one (f ∷ fs) a b k n ms (i, x, s) (j, y, u) =
+    frame_comes_of_one fs a b i n ms x (subst (λ (z : ℕ). ComesOf fs b z n ms) (sym (one_source f k i j ms n s u)) y)
 
 -- ---- one router of a way
 

@@ -143,6 +143,11 @@ EachPacketComesOnce = (g src d bound : ℕ) (started : ℕ → ℕ) (t : Traffic
     → AllByRecursion (HearsAll d started t came n ms) fs → HoldsPast started bound (AreForwarding g src root link fs) n ms
     → HoldsPastOn started bound (AreServedOnce g src d started t root link fs) n ms
 
+-- A frame on the last link comes of one frame alone: each packet has a frame of its own there.
+abbrev pub FrameComesOfOne : Type 0
+FrameComesOfOne = (fs : List Forwarder) (first second frame : ℕ) (n : Network) (ms : List Move) → ComesOf fs first frame n ms
+    → ComesOf fs second frame n ms → first ≡ second
+
 -- ---- nothing else comes
 
 -- bytes that are read as data of the source

@@ -1,7 +1,7 @@
 //! What comes down a way.
 
 ghost use Rattle.law_converges.specs.CarriedWays.{CarriedNetworkBringsNothingElse, CarriedNetworkServesOnce};
-ghost use Rattle.law_converges.specs.ComesOnce.{EachPacketComesOnce, NothingElseComes};
+ghost use Rattle.law_converges.specs.ComesOnce.{EachPacketComesOnce, FrameComesOfOne, NothingElseComes};
 
 /// Down a way of any length, from when its routers forward a source's packets on: of each packet that an event brings to the
 /// way's top router, its root, on a tree or in a Register, exactly one frame on the last link comes. The root puts one copy on
@@ -12,6 +12,11 @@ ghost use Rattle.law_converges.specs.ComesOnce.{EachPacketComesOnce, NothingElse
 /// nothing of what others send there.
 pub fn each_packet_comes_once()
     ensures { EachPacketComesOnce }
+{}
+
+/// No two packets share a frame: a frame on the last link comes, router by router, of one frame alone on the first link.
+pub fn frame_comes_of_one()
+    ensures { FrameComesOfOne }
 {}
 
 /// Nothing else of the source comes there: from when no other router sends its packets on the links of the way, each frame on the
