@@ -841,6 +841,173 @@ static void shared_addresses(void) {
     viq_end(router);
 }
 
+/* ---- RPs that are learned of Bootstraps: the messages, and what follows of them, are those of the worked runs of
+ * crates/pim_bsr/specs/Runs.antt */
+
+enum { THE_BSR = 0x0a090909, FIRST = 0x0a630001, SECOND = 0x0a580009, THIRD = 0x0a4d0002, WIDE = 0xef000000, STATIC = 0x0a000063 };
+
+static const struct viq_range narrow[] = {{0xef010000, 16, STATIC}};
+
+/* Writes a Bootstrap of the neighbour above (RFC 5059, 4.1): 239.0.0.0/8, said with a host bit, has 3 RPs, of which these are
+ * in the fragment, with a holdtime of 150 s. */
+static size_t put_bootstrap(uint8_t *bytes, const uint32_t *rps, uint8_t count) {
+    const uint8_t head[] = {0x45, 0xc0, 0, 46 + 10 * count, 0, 0, 0, 0, 1, PIM, 0, 0, 10, 0, 0, 1, 224, 0, 0, 13, 0x24, 0, 0, 0, 0, 7,
+                            30, 10, 1, 0, 10, 9, 9, 9, 1, 0, 0, 8, 239, 0, 0, 1, 3, count, 0, 0};
+    size_t length = sizeof head;
+    memcpy(bytes, head, sizeof head);
+    for (size_t at = 0; at < count; at++, length += 10) {
+        const uint8_t rp[] = {1, 0, (uint8_t)(rps[at] >> 24), (uint8_t)(rps[at] >> 16), (uint8_t)(rps[at] >> 8), (uint8_t)rps[at], 0, 150, 5, 0};
+        memcpy(bytes + length, rp, sizeof rp);
+    }
+    set_sum(bytes, 20, 10);
+    set_sum(bytes + 20, length - 20, 2);
+    return length;
+}
+
+/* The RP of a group, or 0. */
+static uint32_t rp_of(struct viq_router *router, uint32_t group) {
+    struct viq_tree tree = {.rpf_cause = 7};
+    return viq_tree(router, group, &tree) && tree.rp.is_there ? tree.rp.value : 0;
+}
+
+static void without_a_listener(struct viq_router *router) {
+    struct viq_bsr_elected elected = {7, 7, 7};
+    struct viq_bsr_rp rp = {.rp = 7};
+    struct viq_bsr_part part = {.rp = 7};
+    uint8_t none[1] = {0};
+    bool moved = true;
+    is("hear without a listener", viq_bsr_hear(NULL, router, 0, none, 1, &moved), VIQ_NO_LISTENER);
+    is("nothing moved of it", moved, false);
+    is("give without a listener", viq_bsr_give(NULL, router, viq_draw(7)), VIQ_NO_LISTENER);
+    moved = true;
+    is("pass without a listener", viq_bsr_pass(NULL, 1, &moved), VIQ_NO_LISTENER);
+    is("nothing moved of that", moved, false);
+    is("ranges without a listener", viq_bsr_ranges(NULL, router, 1, one, 1, viq_draw(7)), VIQ_NO_LISTENER);
+    is("no limit without a listener", viq_bsr_ranges(NULL, router, 0, one, 1, viq_draw(7)), VIQ_NO_SETTING);
+    is("next without a listener", viq_bsr_next(NULL), VIQ_NEVER);
+    is("elected without a listener", viq_bsr_elected(NULL, &elected), false);
+    is("RPs without a listener", viq_bsr_rps(NULL) + viq_bsr_parts(NULL), 0);
+    is("one of them without a listener", viq_bsr_rp(NULL, 0, &rp) || viq_bsr_part(NULL, 0, &part), false);
+    is("what isn't written of them", elected.bsr == 7 && rp.rp == 7 && part.rp == 7, true);
+    viq_bsr_end(NULL);
+}
+
+static void new_listeners(struct viq_bsr **bsr) {
+    *bsr = (struct viq_bsr *)&wrong;
+    is("a listener of another ABI", viq_bsr_new(bsr, VIQ_ABI + 1, 100, narrow, 1, 60000), VIQ_OTHER_ABI);
+    is("no listener of it", *bsr == NULL, true);
+    is("a limit of 0", viq_bsr_new(bsr, VIQ_ABI, 0, narrow, 1, 60000), VIQ_NO_SETTING);
+    is("a limit of 257", viq_bsr_new(bsr, VIQ_ABI, 257, narrow, 1, 60000), VIQ_NO_SETTING);
+    is("no listener of that", *bsr == NULL, true);
+    is("the greatest limit", viq_bsr_new(bsr, VIQ_ABI, 256, NULL, 0, 0), VIQ_DONE);
+    viq_bsr_end(*bsr);
+    is("a listener", viq_bsr_new(bsr, VIQ_ABI, 100, narrow, 1, 60000), VIQ_DONE);
+    is("next of a new one", viq_bsr_next(*bsr), VIQ_NEVER);
+}
+
+/* The first fragment comes at 1 s. */
+static void first_fragment(struct viq_bsr *bsr, struct viq_router *router) {
+    static const uint32_t rps[] = {SECOND, THIRD};
+    uint8_t bytes[128], room[VIQ_MOST_BYTES];
+    size_t length = put_bootstrap(bytes, rps, 2);
+    struct viq_packet packet = {7, 7, 7, 7};
+    struct viq_bsr_part part = {.rp = 7};
+    bool moved = true;
+    is("a Bootstrap at the router", viq_frame(router, 0, bytes, length, viq_draw(7)), VIQ_OTHER_TYPE);
+    const struct viq_received both[] = {{0, bytes, length, viq_draw(7)}, {0, bytes, length, viq_draw(7)}};
+    uint32_t answers[] = {7, 7};
+    is("many frames stop behind it", viq_frames(router, both, 2, answers) == 1 && answers[0] == VIQ_OTHER_TYPE && answers[1] == 7, true);
+    is("hear without a router", viq_bsr_hear(bsr, NULL, 0, bytes, length, &moved), VIQ_NO_ROUTER);
+    is("nothing moved without a router", moved, false);
+    is("hear a fragment", viq_bsr_hear(bsr, router, 0, bytes, length, &moved), VIQ_DONE);
+    is("nothing moved", moved, false);
+    is("parts", viq_bsr_parts(bsr) == 2 && viq_bsr_rps(bsr) == 0 && !viq_bsr_part(bsr, 2, &part), true);
+    is("a part", viq_bsr_part(bsr, 0, &part), true);
+    is("its range", part.prefix == WIDE && part.length == 8 && part.rp == SECOND, true);
+    is("its message", part.bsr == THE_BSR && part.tag == 7 && part.priority == 5 && part.holdtime == 150 && part.end == 131000, true);
+    is("hear while packets are untaken", viq_bsr_hear(bsr, router, 0, bytes, length, &moved), VIQ_UNTAKEN);
+    is("give while packets are untaken", viq_bsr_give(bsr, router, viq_draw(7)), VIQ_UNTAKEN);
+    for (uint32_t iface = 0; iface < 2; iface++) {
+        is("sent on", viq_take(router, &packet, room, sizeof room) && packet.kind == VIQ_FRAME && packet.iface == iface, true);
+        memcpy(bytes + 12, iface ? "\x0a\0\1\1" : "\x0a\0\0\2", 4);
+        set_sum((memset(bytes + 10, 0, 2), bytes), 20, 10);
+        is("as it came", packet.length == length && memcmp(room, bytes, length) == 0, true);
+    }
+    is("on no other interface", viq_packets(router), 0);
+}
+
+/* The second one comes 5 ms later, and completes the range. */
+static void second_fragment(struct viq_bsr *bsr, struct viq_router *router) {
+    static const uint32_t rps[] = {FIRST};
+    uint8_t bytes[128];
+    size_t length = put_bootstrap(bytes, rps, 1);
+    struct viq_bsr_elected elected = {7, 7, 7};
+    struct viq_bsr_rp rp = {.rp = 7};
+    bool moved = false;
+    is("advance", viq_advance(router, 1005, viq_draw(7)), VIQ_DONE);
+    is("the second one at the router", viq_frame(router, 0, bytes, length, viq_draw(7)), VIQ_OTHER_TYPE);
+    is("hear from no neighbour", viq_bsr_hear(bsr, router, 2, bytes, length, &moved), VIQ_NO_NEIGHBOUR);
+    is("hear the second one", viq_bsr_hear(bsr, router, 0, bytes, length, &moved), VIQ_DONE);
+    is("the ranges moved", moved, true);
+    is("it isn't given yet", rp_of(router, 0xef090909), 0);
+    viq_clear(router);
+    is("give", viq_bsr_give(bsr, router, viq_draw(7)), VIQ_DONE);
+    is("the learned RP", rp_of(router, 0xef090909), FIRST);
+    is("the configured RP", rp_of(router, 0xef010101), STATIC);
+    is("RPs", viq_bsr_rps(bsr) == 3 && viq_bsr_parts(bsr) == 0 && !viq_bsr_rp(bsr, 3, &rp), true);
+    is("one that isn't chosen", viq_bsr_rp(bsr, 0, &rp) && rp.rp == SECOND && !rp.is_given, true);
+    is("the one that is", viq_bsr_rp(bsr, 2, &rp) && rp.rp == FIRST && rp.is_given, true);
+    is("what it has", rp.prefix == WIDE && rp.length == 8 && rp.priority == 5 && rp.hash_length == 30 && rp.end == 151005, true);
+    is("elected", viq_bsr_elected(bsr, &elected), true);
+    is("who is", elected.bsr == THE_BSR && elected.priority == 10 && elected.end == 131005, true);
+    is("next end", viq_bsr_next(bsr), 151005);
+}
+
+static void other_ranges(struct viq_bsr *bsr, struct viq_router *router) {
+    static const struct viq_range wide[] = {{WIDE, 8, STATIC}}, twice[] = {{WIDE, 8, STATIC}, {WIDE, 8, STATIC}};
+    viq_clear(router);
+    is("ranges twice", viq_bsr_ranges(bsr, router, 100, twice, 2, viq_draw(7)), VIQ_BAD_RANGES);
+    is("far too many, which aren't read", viq_bsr_ranges(bsr, router, 100, NULL, SIZE_MAX, viq_draw(7)), VIQ_BAD_RANGES);
+    is("a limit that isn't one", viq_bsr_ranges(bsr, router, 257, wide, 1, viq_draw(7)), VIQ_NO_SETTING);
+    is("ranges without a router", viq_bsr_ranges(bsr, NULL, 100, wide, 1, viq_draw(7)), VIQ_NO_ROUTER);
+    is("the learned RP stays", rp_of(router, 0xef090909), FIRST);
+    is("the range configured", viq_bsr_ranges(bsr, router, 100, wide, 1, viq_draw(7)), VIQ_DONE);
+    is("its RP", rp_of(router, 0xef090909), STATIC);
+    is("the former ones", viq_bsr_ranges(bsr, router, 100, narrow, 1, viq_draw(7)), VIQ_DONE);
+    is("the learned RP again", rp_of(router, 0xef090909), FIRST);
+}
+
+static void ends_of_learned(struct viq_bsr *bsr, struct viq_router *router) {
+    struct viq_bsr_elected elected = {7, 7, 7};
+    bool moved = true;
+    is("before the end", viq_bsr_pass(bsr, 151004, &moved), VIQ_DONE);
+    is("nothing moved before", moved, false);
+    is("nobody is elected", viq_bsr_elected(bsr, &elected), false);
+    is("at the end", viq_bsr_pass(bsr, 151005, &moved), VIQ_DONE);
+    is("they moved", moved, true);
+    is("give the configured ones", viq_bsr_give(bsr, router, viq_draw(7)), VIQ_DONE);
+    is("no RP any more", rp_of(router, 0xef090909), 0);
+    is("the configured one", rp_of(router, 0xef010101), STATIC);
+}
+
+static void bootstraps(void) {
+    struct viq_router *router = NULL;
+    struct viq_bsr *bsr = NULL;
+    is("new for Bootstraps", viq_new(&router, VIQ_ABI, &usual, three, COUNT(three), two, COUNT(two), narrow, 1), VIQ_DONE);
+    without_a_listener(router);
+    new_listeners(&bsr);
+    for (uint32_t iface = 0; iface < 3; iface++) is("up for Bootstraps", viq_up(router, iface, viq_draw(7)), VIQ_DONE);
+    is("the neighbour above", frame(router, 0, hello_above), VIQ_DONE);
+    is("the neighbour below", frame(router, 1, hello_below), VIQ_DONE);
+    is("advance to 1 s", viq_advance(router, 1000, viq_draw(7)), VIQ_DONE);
+    first_fragment(bsr, router);
+    second_fragment(bsr, router);
+    other_ranges(bsr, router);
+    ends_of_learned(bsr, router);
+    viq_bsr_end(bsr);
+    viq_end(router);
+}
+
 /* ---- hosts and routers of older versions */
 
 enum { OLDER_BYTES = 32 };
@@ -1551,7 +1718,7 @@ static void texts(void) {
     is("untaken", viq_is_refused(VIQ_UNTAKEN) || viq_is_ignored(VIQ_UNTAKEN) || viq_is_lost(VIQ_UNTAKEN), false);
     is("lost", viq_is_lost(VIQ_LOST) && viq_is_lost(VIQ_FAILED) && !viq_is_lost(VIQ_MEMORY), true);
     is("refused past the first numbers", viq_is_refused(VIQ_OWN_ADDRESSES) && viq_is_refused(VIQ_PLACES_DONT_FIT) && viq_is_refused(VIQ_BAD_RP_SET) && !viq_is_refused(VIQ_NOT_NEAR), true);
-    is("the last reason", strcmp(viq_answer_text(VIQ_GUARDED), viq_answer_text(VIQ_GUARDED + 1)) != 0, true);
+    is("the last reason", strcmp(viq_answer_text(VIQ_NOT_PREFERRED), viq_answer_text(VIQ_NOT_PREFERRED + 1)) != 0, true);
 }
 
 int main(void) {
@@ -1573,6 +1740,7 @@ int main(void) {
     moved_sources();
     guarded();
     shared_addresses();
+    bootstraps();
     older_versions();
     many_frames();
     reloads();

@@ -5,6 +5,7 @@
 #include "core.h"
 
 #define CORE(router) (&(struct viq_core){(void *)(router), (router) != NULL})
+#define LISTENER(bsr) (&(struct viq_core_bsr){(void *)(bsr), (bsr) != NULL})
 
 /* 0.0.0.0 is no host's address, and no prefix is longer than 32 bits. */
 static const uint32_t no_address = 0;
@@ -123,7 +124,8 @@ uint32_t viq_frame(struct viq_router *router, uint32_t iface, const uint8_t *pac
 
 /* Whether the program has nothing to do before the next event, after one that was answered so. */
 static bool goes_on(const struct viq_router *router, uint32_t answer) {
-    return !viq_is_lost(answer) && router != NULL && viq_packets(router) == 0 && viq_touched(router) == 0;
+    return !viq_is_lost(answer) && answer != VIQ_OTHER_TYPE && router != NULL && viq_packets(router) == 0 &&
+           viq_touched(router) == 0;
 }
 
 size_t viq_frames(struct viq_router *router, const struct viq_received *frames, size_t count, uint32_t *answers) {
@@ -303,3 +305,53 @@ uint32_t viq_sum(const struct viq_router *router) { return viq_core_sum(CORE(rou
 uint64_t viq_probes(const struct viq_router *router) { return viq_core_probes(CORE(router)); }
 
 uint64_t viq_touched(const struct viq_router *router) { return viq_core_touched(CORE(router)); }
+
+uint32_t viq_bsr_new(struct viq_bsr **bsr, uint32_t abi, uint32_t limit, const struct viq_range *ranges, size_t count,
+                     uint64_t refresh_end) {
+    struct viq_core_bsr core = {NULL, false};
+    struct range_list given = ranges_of(ranges, count);
+    *bsr = NULL;
+    if (abi != VIQ_ABI) return VIQ_OTHER_ABI;
+    uint32_t answer = viq_core_bsr_new(&core, limit, given.at, given.count, refresh_end);
+    if (core.is_there) *bsr = (struct viq_bsr *)core.place;
+    return answer;
+}
+
+void viq_bsr_end(struct viq_bsr *bsr) { viq_core_bsr_end(LISTENER(bsr)); }
+
+uint32_t viq_bsr_hear(struct viq_bsr *bsr, struct viq_router *router, uint32_t iface, const uint8_t *packet,
+                      size_t length, bool *moved) {
+    return viq_core_bsr_hear(LISTENER(bsr), CORE(router), iface, packet, length, moved);
+}
+
+uint32_t viq_bsr_give(const struct viq_bsr *bsr, struct viq_router *router, struct viq_draw draw) {
+    return viq_core_bsr_give(LISTENER(bsr), CORE(router), draw.bits);
+}
+
+uint64_t viq_bsr_next(const struct viq_bsr *bsr) { return viq_core_bsr_next(LISTENER(bsr)); }
+
+uint32_t viq_bsr_pass(struct viq_bsr *bsr, uint64_t moment, bool *moved) {
+    return viq_core_bsr_pass(LISTENER(bsr), moment, moved);
+}
+
+uint32_t viq_bsr_ranges(struct viq_bsr *bsr, struct viq_router *router, uint32_t limit, const struct viq_range *ranges,
+                        size_t count, struct viq_draw draw) {
+    struct range_list given = ranges_of(ranges, count);
+    return viq_core_bsr_ranges(LISTENER(bsr), CORE(router), draw.bits, limit, given.at, given.count);
+}
+
+bool viq_bsr_elected(const struct viq_bsr *bsr, struct viq_bsr_elected *elected) {
+    return viq_core_bsr_elected(LISTENER(bsr), elected);
+}
+
+size_t viq_bsr_rps(const struct viq_bsr *bsr) { return viq_core_bsr_rps(LISTENER(bsr)); }
+
+bool viq_bsr_rp(const struct viq_bsr *bsr, size_t index, struct viq_bsr_rp *row) {
+    return viq_core_bsr_rp(LISTENER(bsr), index, row);
+}
+
+size_t viq_bsr_parts(const struct viq_bsr *bsr) { return viq_core_bsr_parts(LISTENER(bsr)); }
+
+bool viq_bsr_part(const struct viq_bsr *bsr, size_t index, struct viq_bsr_part *row) {
+    return viq_core_bsr_part(LISTENER(bsr), index, row);
+}

@@ -11,6 +11,12 @@ struct viq_core {
     bool is_there;
 };
 
+/* A listener for Bootstraps, or none, in the same way. */
+struct viq_core_bsr {
+    void *place;
+    bool is_there;
+};
+
 /* The settings but the addresses. */
 struct viq_core_settings {
     uint32_t limit;
@@ -103,5 +109,20 @@ uint32_t viq_core_record_reload_places(const struct viq_call *call, const struct
 uint32_t viq_core_sum(struct viq_core *router);
 uint64_t viq_core_probes(struct viq_core *router);
 uint64_t viq_core_touched(struct viq_core *router);
+uint32_t viq_core_bsr_new(struct viq_core_bsr *listener, uint32_t limit, const struct viq_range *ranges, size_t count,
+                          uint64_t refresh_end);
+void viq_core_bsr_end(struct viq_core_bsr *listener);
+uint32_t viq_core_bsr_hear(struct viq_core_bsr *listener, struct viq_core *router, uint32_t iface,
+                           const uint8_t *packet, size_t length, bool *moved);
+uint32_t viq_core_bsr_give(struct viq_core_bsr *listener, struct viq_core *router, uint32_t draw);
+uint64_t viq_core_bsr_next(struct viq_core_bsr *listener);
+uint32_t viq_core_bsr_pass(struct viq_core_bsr *listener, uint64_t moment, bool *moved);
+uint32_t viq_core_bsr_ranges(struct viq_core_bsr *listener, struct viq_core *router, uint32_t draw, uint32_t limit,
+                             const struct viq_range *ranges, size_t count);
+bool viq_core_bsr_elected(struct viq_core_bsr *listener, struct viq_bsr_elected *elected);
+size_t viq_core_bsr_rps(struct viq_core_bsr *listener);
+bool viq_core_bsr_rp(struct viq_core_bsr *listener, size_t index, struct viq_bsr_rp *row);
+size_t viq_core_bsr_parts(struct viq_core_bsr *listener);
+bool viq_core_bsr_part(struct viq_core_bsr *listener, size_t index, struct viq_bsr_part *row);
 
 #endif

@@ -49,6 +49,7 @@ const char *viq_answer_text(uint32_t answer) {
     case VIQ_OTHER_ABI: return "the program was compiled for another version of the library";
     case VIQ_NO_SETTING: return "no setting has this number";
     case VIQ_UNTAKEN: return "packets of the event before are untaken";
+    case VIQ_NO_LISTENER: return "there is no listener for Bootstraps";
     case VIQ_NOT_OURS: return "the bytes are no saved state";
     case VIQ_OTHER_VERSION: return "the state was saved in another version of its format";
     case VIQ_CUT_SHORT: return "the saved state is cut short";
@@ -70,6 +71,11 @@ const char *viq_answer_text(uint32_t answer) {
     case VIQ_NOT_RP: return "ignored: the sender isn't the RP";
     case VIQ_ALREADY: return "ignored: it is so already";
     case VIQ_GUARDED: return "ignored: the guard stopped IGMP or PIM that would be forwarded as data";
+    case VIQ_OWN_BSR: return "ignored: the Bootstrap's BSR is the router itself";
+    case VIQ_SCOPED: return "ignored: the Bootstrap is of an admin scope zone";
+    case VIQ_LATE_REFRESH: return "ignored: the Bootstrap is for a router that has just started";
+    case VIQ_NOT_FROM_RPF: return "ignored: the Bootstrap doesn't come from the RPF neighbour of its BSR";
+    case VIQ_NOT_PREFERRED: return "ignored: the Bootstrap's BSR has less weight than the elected one";
     default: return "no answer of this library";
     }
 }

@@ -21,10 +21,15 @@ NAMES = {
     "CNeighbour": "viq_neighbour", "NeighbourColumns": "viq_neighbour_row", "GroupColumns": "viq_group_row",
     "SourceColumns": "viq_source_row", "DownstreamColumns": "viq_downstream_row", "AssertColumns": "viq_assert_row",
     "UpstreamColumns": "viq_upstream_row", "RptColumns": "viq_rpt_row", "ActiveColumns": "viq_active_row",
-    "CRow": "viq_core_row", "GivenCall": "viq_call",
+    "CRow": "viq_core_row", "GivenCall": "viq_call", "ListenerHandle": "viq_core_bsr", "CElected": "viq_bsr_elected",
+    "LearnedRow": "viq_bsr_rp", "PartRow": "viq_bsr_part", "GivenRpSet": "viq_rp_set",
 }
-# `Place` is a pointer beside what takes no room.
-TYPES = {"u8": "uint8_t", "u32": "uint32_t", "u64": "uint64_t", "usize": "size_t", "bool": "bool", "Place": "void *"}
+# A place is a pointer beside what takes no room.
+TYPES = {"u8": "uint8_t", "u32": "uint32_t", "u64": "uint64_t", "usize": "size_t", "bool": "bool", "Place": "void *",
+         "ListenerPlace": "void *"}
+# The files of the crate that have its values, and those that have its calls.
+OF_VALUES = ("handle.rt", "given.rt", "returned.rt", "rows.rt", "trees.rt", "recorded.rt", "listening.rt", "learned.rt")
+OF_CALLS = ("calls.rt", "bootstraps.rt")
 STRUCT = re.compile(r"#\[repr\(C\)\]\n(?:#\[[^\n]*\]\n)?pub struct (\w+)(?:<'a>)? \{\n(.*?)^\}", re.M | re.S)
 FIELD = re.compile(r"^    (?:pub )?(\w+): (&'a \[)?(\w+)\]?,$", re.M)
 CALL = re.compile(r'^pub extern "C" fn (viq_core_\w+)\((.*?)\)(?: -> (\w+))?\n', re.M | re.S)
@@ -38,8 +43,7 @@ C_NUMBER = re.compile(r"^#define (VIQ_(?:MOST|NEVER|NO|USUAL)\w*) (.+)$", re.M)
 
 def structs() -> dict[str, list[tuple[str, str]]]:
     """The crate's values that C sees: each with its fields, a name and a type of C."""
-    names = ("handle.rt", "given.rt", "returned.rt", "rows.rt", "trees.rt", "recorded.rt")
-    text = "".join((SOURCES / name).read_text() for name in names)
+    text = "".join((SOURCES / name).read_text() for name in OF_VALUES)
     found = {name: FIELD.findall(body) for name, body in STRUCT.findall(text)}
     return {NAMES[name]: [it for field in found[name] for it in c_fields(*field)] for name in NAMES}
 
@@ -72,7 +76,7 @@ def parameters(text: str) -> Iterator[str]:
 
 def calls() -> Iterator[tuple[str, str]]:
     """Each call as a type of C."""
-    for name, text, answer in CALL.findall((SOURCES / "calls.rt").read_text()):
+    for name, text, answer in CALL.findall("".join((SOURCES / name).read_text() for name in OF_CALLS)):
         yield name, f"{c_type(answer) if answer else 'void'} (*)({', '.join(parameters(text))})"
 
 

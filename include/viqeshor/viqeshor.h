@@ -66,7 +66,7 @@ extern "C" {
 /* The number of what a compiled program and a library have to agree on: the values, the calls and the numbers of this
  * header and of plane.h. Wherever one of them changes, this number changes. A program passes it to viq_new and
  * viq_restore, which refuse any other. */
-#define VIQ_ABI 9
+#define VIQ_ABI 10
 
 /* The library's number: VIQ_ABI as it was built with. */
 uint32_t viq_abi(void);
@@ -136,6 +136,7 @@ enum {
     VIQ_OTHER_ABI = 53, /* the program was compiled for another library than this one */
     VIQ_NO_SETTING = 54, /* no setting has this number */
     VIQ_UNTAKEN = 55, /* packets of the event before are untaken, and nothing has changed: viq_take, viq_clear */
+    VIQ_NO_LISTENER = 56, /* the listener is NULL */
 
     /* of saved bytes */
     VIQ_NOT_OURS = 60,
@@ -160,7 +161,12 @@ enum {
     VIQ_NO_NEIGHBOUR = 106,
     VIQ_NOT_RP = 107,
     VIQ_ALREADY = 108,
-    VIQ_GUARDED = 109
+    VIQ_GUARDED = 109,
+    VIQ_OWN_BSR = 110,
+    VIQ_SCOPED = 111,
+    VIQ_LATE_REFRESH = 112,
+    VIQ_NOT_FROM_RPF = 113,
+    VIQ_NOT_PREFERRED = 114
 };
 
 /* Whether an event or a configuration was refused; whether an event was ignored; whether the router is lost, by this
@@ -360,9 +366,10 @@ struct viq_received {
 };
 
 /* Packets came on interfaces, to groups, one after the other: each is an event, and is given to the router in its turn as
- * by viq_frame. The call stops behind the first one after which packets are untaken, viq_touched isn't 0, or the router
- * is lost or NULL. It answers how many were given: 0 where count is 0, else at least 1. `answers` points to `count`
- * numbers, and may be NULL where that is 0: what each of those was answered is written there, and the rest is unchanged.
+ * by viq_frame. The call stops behind the first one that answers VIQ_OTHER_TYPE, or after which packets are untaken,
+ * viq_touched isn't 0, or the router is lost or NULL. It answers how many were given: 0 where count is 0, else at least
+ * 1. `answers` points to `count` numbers, and may be NULL where that is 0: what each of those was answered is written
+ * there, and the rest is unchanged.
  *
  * So each that was given but the last one sent nothing, and changed no row of a source with a fact. What the calls below
  * tell of the last event, they tell of the last one that was given: the program does what it does after an event, and
@@ -783,6 +790,132 @@ struct viq_rp_set {
  * It answers VIQ_DONE; VIQ_BAD_RP_SET or VIQ_MEMORY, where nothing has changed; VIQ_FAILED or VIQ_NO_ROUTER. */
 VIQ_READ_ANSWER
 uint32_t viq_anycast(struct viq_router *router, const struct viq_rp_set *sets, size_t count);
+
+/* ---- RPs that are learned of Bootstraps (RFC 5059)
+ *
+ * The routers of a domain can learn their RPs of one of them, the bootstrap router (BSR), whose Bootstrap messages they
+ * send on from neighbour to neighbour. A listener hears these messages before a router, keeps what they say for as long
+ * as they say it, and says which ranges the router is to have beside the configured ones. A configured range wins over
+ * a learned one of the same prefix. Of the RPs of one learned range the router is given the one that a hash of the
+ * range's prefix chooses. The router is no candidate BSR or RP, and admin scope zones aren't built. Without a listener
+ * nothing of this happens.
+ *
+ * A program that has a listener makes these calls, in this order:
+ *
+ * - A packet on a link goes to the router by viq_frame. Where this answers VIQ_OTHER_TYPE the packet goes to
+ *   viq_bsr_hear. What that sends on is taken by viq_take, as after an event, and leaves first. Where it says that the
+ *   ranges moved, viq_bsr_give follows, with the draw of the packet's event.
+ * - Time passes to a moment: while viq_bsr_next isn't later than the moment, viq_advance to viq_bsr_next, viq_bsr_pass
+ *   to the same, and viq_bsr_give where that says that the ranges moved. Then viq_advance to the moment, and
+ *   viq_bsr_pass to the moment. Time is to pass at the sooner one of viq_next_moment and viq_bsr_next.
+ * - Other configured ranges are set by viq_bsr_ranges, in place of viq_ranges.
+ * - Another configuration is set by viq_reload, or viq_reload_places, with the ranges that the router has: those that
+ *   were configured before, and those of viq_bsr_rp that it is given. Then viq_bsr_ranges sets the new configured ones.
+ * - A listener that comes is made of the ranges that the router has. One that goes leaves them to viq_ranges.
+ *
+ * What a listener knows isn't saved by viq_save: a restored router has the ranges that it was given last. */
+
+/* A listener. Whoever made it by viq_bsr_new frees it by viq_bsr_end. A listener may be NULL, as a router may. At any
+ * time at most one call uses a listener. */
+struct viq_bsr;
+
+/* Makes a listener, which knows no BSR. `limit` is the most RPs that it keeps, with those of messages of which
+ * fragments are missing, 1 to VIQ_MOST_RANGES; a router has at most VIQ_MOST_RANGES ranges, so that fewer are kept
+ * where more are configured. The ranges are those that the router has. Until `refresh_end`, a moment, one message may
+ * come that a neighbour sends to a router which has just started (section 3.5.1): 60,000 ms after the router started,
+ * or 0 for none. The second argument is VIQ_ABI. It answers VIQ_DONE, VIQ_NO_SETTING for another limit, VIQ_MEMORY or
+ * VIQ_OTHER_ABI. It writes what `bsr` points to, and doesn't read it: the new listener, or NULL where there is none. */
+VIQ_READ_ANSWER VIQ_NOT_NULL(1)
+uint32_t viq_bsr_new(struct viq_bsr **bsr, uint32_t abi, uint32_t limit, const struct viq_range *ranges, size_t count,
+                     uint64_t refresh_end);
+
+/* Frees the listener and its memory. With NULL it does nothing. */
+void viq_bsr_end(struct viq_bsr *bsr);
+
+/* Hears a packet that came on an interface, and to which viq_frame answered VIQ_OTHER_TYPE. It is no event: of the
+ * router it changes what is to be sent alone. `moved` gets whether the router is to be given other ranges; it gets
+ * false with each other answer than VIQ_DONE.
+ *
+ * VIQ_DONE: a Bootstrap counts, and is sent on as it came, on each interface with neighbours. With all others nothing
+ * has changed. VIQ_OTHER_TYPE: the packet is no Bootstrap. A refusal of a packet: it can't be read as one. Why a
+ * Bootstrap doesn't count, in the order of the tests: VIQ_OWN_BSR, VIQ_NO_NEIGHBOUR, VIQ_SCOPED, VIQ_LATE_REFRESH,
+ * VIQ_NOT_FROM_RPF, VIQ_NOT_PREFERRED, and VIQ_FULL where there is no room for its RPs. VIQ_UNTAKEN; VIQ_MEMORY, where
+ * it counts or there is no room for its RPs; VIQ_FAILED, VIQ_NO_ROUTER or VIQ_NO_LISTENER. */
+VIQ_READ_ANSWER VIQ_NOT_NULL(6)
+uint32_t viq_bsr_hear(struct viq_bsr *bsr, struct viq_router *router, uint32_t iface, const uint8_t *packet,
+                      size_t length, bool *moved);
+
+/* An event of the router: its ranges are replaced by those that the listener has for it, the configured ones and one of
+ * each learned range that isn't configured. The listener stays as it is. It answers as viq_ranges does, VIQ_BAD_RANGES
+ * exactly where viq_ranges would with the configured ones alone; or VIQ_NO_LISTENER, where nothing has changed. */
+VIQ_READ_ANSWER
+uint32_t viq_bsr_give(const struct viq_bsr *bsr, struct viq_router *router, struct viq_draw draw);
+
+/* When the first of the RPs in force expires, in ms; VIQ_NEVER where there is none, and for NULL. */
+VIQ_READ_ANSWER
+uint64_t viq_bsr_next(const struct viq_bsr *bsr);
+
+/* Time passed to a moment: RPs, fragments and the elected BSR are forgotten that have expired by then. `moved` gets
+ * whether the router is to be given other ranges. It answers VIQ_DONE; VIQ_MEMORY, where nothing has changed, and which
+ * isn't answered where no RP in force expired; or VIQ_NO_LISTENER. */
+VIQ_READ_ANSWER VIQ_NOT_NULL(3)
+uint32_t viq_bsr_pass(struct viq_bsr *bsr, uint64_t moment, bool *moved);
+
+/* Other configured ranges, and another limit on the RPs that are kept, as in viq_bsr_new. It is an event of the router:
+ * its ranges are replaced by these and the learned ones beside them. Where that answers VIQ_DONE the listener has the
+ * new configured ranges and the new limit, and RPs for which there is no room then are forgotten, the newest first;
+ * else it stays as it is. It answers as viq_ranges does, VIQ_BAD_RANGES exactly where viq_ranges would with the new
+ * ones alone; VIQ_NO_SETTING for another limit or VIQ_NO_LISTENER, where nothing has changed. */
+VIQ_READ_ANSWER
+uint32_t viq_bsr_ranges(struct viq_bsr *bsr, struct viq_router *router, uint32_t limit, const struct viq_range *ranges,
+                        size_t count, struct viq_draw draw);
+
+/* The elected BSR. */
+struct viq_bsr_elected {
+    uint32_t bsr;      /* its address */
+    uint32_t priority; /* 0 to 255; the higher is preferred */
+    uint64_t end;      /* ms, when the Bootstrap Timer expires: 130 s after its last message */
+};
+
+/* The elected BSR; false, and nothing is written, where none is elected, and for NULL. */
+VIQ_NOT_NULL(2)
+bool viq_bsr_elected(const struct viq_bsr *bsr, struct viq_bsr_elected *elected);
+
+/* An RP of a learned range, in force. */
+struct viq_bsr_rp {
+    uint32_t prefix; /* of the range */
+    uint32_t length;
+    uint32_t rp;
+    uint32_t priority;    /* 0 to 255; the lower is preferred */
+    uint32_t hash_length; /* bits of the hash function's mask, 0 to 32 */
+    bool is_given;        /* the router is given it: its range isn't configured, and it is chosen of its range */
+    uint64_t end;         /* ms, when its holdtime is over */
+};
+
+/* How many RPs are in force; and one of them, counted from 0, in the order in which they were learned. viq_bsr_rp
+ * answers false, and writes nothing, where there is none of that number. */
+VIQ_READ_ANSWER
+size_t viq_bsr_rps(const struct viq_bsr *bsr);
+VIQ_NOT_NULL(3)
+bool viq_bsr_rp(const struct viq_bsr *bsr, size_t index, struct viq_bsr_rp *row);
+
+/* An RP of a range, of a message of which other fragments are missing. It isn't in force. */
+struct viq_bsr_part {
+    uint32_t prefix; /* of the range */
+    uint32_t length;
+    uint32_t rp;
+    uint32_t priority; /* 0 to 255; the lower is preferred */
+    uint32_t holdtime; /* seconds; 0 takes the RP away */
+    uint32_t bsr;      /* the message's */
+    uint32_t tag;      /* the message's fragment tag */
+    uint64_t end;      /* ms, when it is forgotten: 130 s after it came */
+};
+
+/* How many such RPs there are; and one of them, as viq_bsr_rp. */
+VIQ_READ_ANSWER
+size_t viq_bsr_parts(const struct viq_bsr *bsr);
+VIQ_NOT_NULL(3)
+bool viq_bsr_part(const struct viq_bsr *bsr, size_t index, struct viq_bsr_part *row);
 
 /* ---- older versions of IGMP (RFC 3376, section 7.3)
  *

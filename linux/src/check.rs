@@ -47,7 +47,7 @@ pub fn is_open(interface: &InterfaceSettings) -> bool {
 
 fn of_the_file(settings: &Settings) -> Vec<String> {
     let mut notes = Vec::new();
-    if settings.rps.is_empty() {
+    if settings.rps.is_empty() && settings.bsr.is_none() {
         notes.push("there is no [[rp]]: only groups of 232.0.0.0/8, whose sources hosts name, get a tree".to_string());
     }
     let is_rp = |address: Ipv4Addr| settings.rps.iter().any(|rp| rp.address == address);

@@ -15,8 +15,8 @@ use rand::{Rng, RngCore, SeedableRng};
 use std::collections::{BTreeMap, BTreeSet};
 use std::net::Ipv4Addr;
 use viqeshor::{
-    Error, Link, NeighbourRow, OlderRow, Range, Reason, Refusal, Route, Router, RpSet, SourceTree, Table, TableRow,
-    Target, Tree, Verdict,
+    Bsr, Elected, Error, Heard, LearnedPart, LearnedRp, Link, NeighbourRow, OlderRow, Range, Reason, Refusal, Route,
+    Router, RpSet, SourceTree, Table, TableRow, Target, Tree, Verdict,
 };
 
 /// A Hello that an event triggers leaves after a part of Triggered_Hello_Delay, in ms (RFC 7761, 4.3.1 and 4.11), which
@@ -37,7 +37,10 @@ pub enum Event<'a> {
     Up(u32),
     Down(u32),
     Routes(&'a [Route]),
+    /// The RP ranges of the file are replaced.
     Ranges(&'a [Range]),
+    /// The RP ranges are replaced by these: those that are learned of Bootstraps beside those of the file.
+    Learned(&'a [Range]),
     /// The kernel saw a packet of a source on an interface.
     Seen(u32, Key),
 }
@@ -58,6 +61,8 @@ impl Event<'_> {
 pub enum Answer {
     Done,
     Ignored,
+    /// Ignored as PIM of a type that the library's router doesn't handle.
+    OtherType,
     /// The guard stopped it.
     Guarded,
     Refused(Refusal),
@@ -70,6 +75,10 @@ pub struct Core {
     /// By which it was made, or goes on.
     pub told: Told,
     draws: StdRng,
+    /// The number of the last event.
+    draw: u32,
+    /// What hears Bootstraps, and the most RPs that it keeps, where they are heard.
+    listener: Option<(Bsr, u32)>,
     /// What the router was told of how its interfaces speak IGMP.
     speech: BTreeMap<u32, Speech>,
     /// On which interfaces the router before this one knew older hosts, as long as it isn't told which they hear.
@@ -144,6 +153,8 @@ impl Core {
             sent: Outgoing::default(),
             told,
             draws: StdRng::from_rng(OsRng)?,
+            draw: 0,
+            listener: None,
             speech: BTreeMap::new(),
             restored: BTreeSet::new(),
             has_guard: true,
@@ -310,7 +321,9 @@ impl Core {
     ) -> Result<Answer, Fatal> {
         self.next = None;
         let draw = self.draws.next_u32();
-        let (configured, ranges) = (settings_of(settings, given), ranges_of(&settings.rps));
+        // Those that are learned stay, and then the file's are set beside them.
+        let ranges = self.listener.as_ref().map_or_else(|| ranges_of(&settings.rps), |(bsr, _)| bsr.given());
+        let configured = settings_of(settings, given);
         let (interfaces, numbers) = (&given.interfaces, places.map(Places::as_slice));
         let done = match numbers {
             None => self.router.reload(&configured, interfaces, routes, &ranges, draw),
@@ -354,38 +367,135 @@ impl Core {
 
     /// An event, by a number of its own.
     pub fn take(&mut self, event: Event) -> Result<Answer, Fatal> {
+        self.draw = self.draw(&event);
+        self.take_also(event)
+    }
+
+    /// An event that follows of the one before, by the same number.
+    pub fn take_also(&mut self, event: Event) -> Result<Answer, Fatal> {
         self.next = None;
-        let draw = self.draw(&event);
-        let router = &mut self.router;
-        let verdict = match event {
-            Event::Advance(moment) => router.advance(moment, draw),
-            Event::Frame(iface, packet) => router.frame(iface, packet, draw),
-            Event::Unicast(packet) => router.unicast(packet, draw),
-            Event::Up(iface) => router.up(iface, draw),
-            Event::Down(iface) => router.down(iface, draw),
-            Event::Routes(routes) => router.set_routes(routes, draw),
-            Event::Ranges(ranges) => router.set_ranges(ranges, draw),
-            Event::Seen(iface, key) => router.seen(iface, key.source, key.group, draw),
-        };
+        let draw = self.draw;
+        let verdict = self.tell(event, draw);
         let before = self.sent.len();
-        self.sent.take(router);
+        self.sent.take(&mut self.router);
         if let Some(recorder) = &mut self.recorder {
+            // With those of the file the router was given those that are learned beside them.
+            let given = self.listener.as_ref().map_or_else(Vec::new, |(bsr, _)| bsr.given());
+            let event = match event {
+                Event::Ranges(_) if self.listener.is_some() && verdict.is_ok() => Event::Learned(&given),
+                event => event,
+            };
             let written = recorder.event(self.sent.since(before), &event, draw, answer_of(&verdict));
             self.was_recorded(written);
         }
         match verdict {
             Ok(Verdict::Done) => Ok(Answer::Done),
             Ok(Verdict::Ignored(Reason::Guarded)) => Ok(Answer::Guarded),
+            Ok(Verdict::Ignored(Reason::OtherType)) => Ok(Answer::OtherType),
             Ok(Verdict::Ignored(_)) => Ok(Answer::Ignored),
             Err(Error::Refused(refusal)) => Ok(Answer::Refused(refusal)),
             Err(error) => Err(Fatal::Router(error)),
         }
     }
 
-    /// In ms; `None` where no timer runs.
+    fn tell(&mut self, event: Event, draw: u32) -> Result<Verdict, Error> {
+        let Core { router, listener, .. } = self;
+        match event {
+            Event::Advance(moment) => router.advance(moment, draw),
+            Event::Frame(iface, packet) => router.frame(iface, packet, draw),
+            Event::Unicast(packet) => router.unicast(packet, draw),
+            Event::Up(iface) => router.up(iface, draw),
+            Event::Down(iface) => router.down(iface, draw),
+            Event::Routes(routes) => router.set_routes(routes, draw),
+            Event::Ranges(ranges) => match listener {
+                Some((bsr, limit)) => bsr.set_ranges(router, *limit, ranges, draw),
+                None => router.set_ranges(ranges, draw),
+            },
+            Event::Learned(_) => match listener {
+                Some((bsr, _)) => bsr.give(router, draw),
+                None => Ok(Verdict::Done),
+            },
+            Event::Seen(iface, key) => router.seen(iface, key.source, key.group, draw),
+        }
+    }
+
+    /// In ms; `None` where no timer runs, and no RP that is learned ends.
     pub fn next_moment(&mut self) -> Option<u64> {
-        let router = &self.router;
-        *self.next.get_or_insert_with(|| router.next_moment())
+        let (router, end) = (&self.router, self.next_end());
+        *self.next.get_or_insert_with(|| router.next_moment().into_iter().chain(end).min())
+    }
+
+    // ---- Bootstraps
+
+    /// Whether they are heard.
+    pub fn listens(&self) -> bool {
+        self.listener.is_some()
+    }
+
+    /// They are heard from here on, beside these ranges, which the router has; until a moment, in ms, a neighbour may say
+    /// at once what it learned before.
+    pub fn listen(&mut self, limit: u32, ranges: &[Range], refresh_end: u64) -> Result<(), Fatal> {
+        self.listener = Some((Bsr::new(limit, ranges, refresh_end).map_err(Fatal::Router)?, limit));
+        Ok(())
+    }
+
+    /// They are heard no more.
+    pub fn listen_no_more(&mut self) {
+        self.listener = None;
+        self.next = None;
+    }
+
+    /// As many RPs are kept from the next event on that sets the ranges of the file. It answers whether it was another
+    /// number.
+    pub fn set_limit(&mut self, limit: u32) -> bool {
+        let before = self.listener.as_mut().map(|(_, kept)| std::mem::replace(kept, limit));
+        before.map_or(false, |before| before != limit)
+    }
+
+    /// A packet that the router ignored for its type is heard. What leaves of it is to leave.
+    pub fn hear(&mut self, iface: u32, packet: &[u8]) -> Result<Heard, Error> {
+        self.next = None;
+        let Core { router, listener, .. } = self;
+        let heard = match listener {
+            Some((bsr, _)) => bsr.hear(router, iface, packet)?,
+            None => Heard::Other,
+        };
+        self.sent.take(&mut self.router);
+        Ok(heard)
+    }
+
+    /// When the first RP that is learned ends, in ms.
+    pub fn next_end(&self) -> Option<u64> {
+        self.listener.as_ref().and_then(|(bsr, _)| bsr.next_end())
+    }
+
+    /// Time passed to a moment, in ms. It tells whether the router is to be given other ranges.
+    pub fn pass(&mut self, moment: u64) -> Result<bool, Fatal> {
+        self.next = None;
+        match &mut self.listener {
+            Some((bsr, _)) => Ok(bsr.pass(moment)?),
+            None => Ok(false),
+        }
+    }
+
+    /// The BSR that is elected.
+    pub fn elected(&self) -> Option<Elected> {
+        self.listener.as_ref().and_then(|(bsr, _)| bsr.elected())
+    }
+
+    /// The ranges that the router is to have, where they are heard.
+    pub fn given(&self) -> Vec<Range> {
+        self.listener.as_ref().map_or_else(Vec::new, |(bsr, _)| bsr.given())
+    }
+
+    /// The RPs that are learned.
+    pub fn learned(&self) -> Vec<LearnedRp> {
+        self.listener.as_ref().map_or_else(Vec::new, |(bsr, _)| bsr.rps())
+    }
+
+    /// Those of which fragments are missing.
+    pub fn learned_parts(&self) -> Vec<LearnedPart> {
+        self.listener.as_ref().map_or_else(Vec::new, |(bsr, _)| bsr.parts())
     }
 
     /// Whether no packet is to leave.

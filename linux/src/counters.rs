@@ -30,6 +30,12 @@ pub struct Counters {
     pub made_anew: u64,
     /// The number of times that the router took another configuration.
     pub reloaded: u64,
+    /// The number of Bootstraps that counted.
+    pub bootstraps_taken: u64,
+    /// The number of Bootstraps that didn't count.
+    pub bootstraps_left_out: u64,
+    /// The number of times that Bootstraps moved the RPs.
+    pub bootstrap_moves: u64,
     /// The number of reports of programs on the router.
     pub own_reports: u64,
     /// The number of unicasts heard.

@@ -2,6 +2,7 @@
 //! out.
 mod anew;
 mod bfd;
+mod bootstraps;
 mod cleared;
 mod forwarding;
 mod heard;
@@ -23,7 +24,7 @@ use crate::mroute::Key;
 use crate::older::Version;
 use crate::overrides::Overrides;
 use crate::packed::Packing;
-use crate::packet::{is_pim, message_of, says_goodbye, with_holdtime, Packet, HELLO};
+use crate::packet::{is_pim, message_of, says_goodbye, with_holdtime, Packet, BOOTSTRAP, HELLO};
 use crate::plane::{Placed, Plane, Row, Ways};
 use crate::policy::{Books, Cause, Gate, Policy};
 use crate::ports::{self, Machine, Port};
@@ -115,6 +116,8 @@ struct Due {
     learned: Option<u64>,
     /// What it hasn't learned by then it won't.
     unlearned: u64,
+    /// RPs go that the router before this one had learned of Bootstraps.
+    unheard: Option<u64>,
 }
 
 /// Sources without a fact that are to be asked for anew after the turn.
@@ -140,6 +143,7 @@ impl Pace {
     }
 }
 
+pub use bootstraps::Rp;
 pub use resumed::Way;
 
 pub struct Daemon {
@@ -263,6 +267,7 @@ impl Daemon {
         self.core.set_guard(self.settings.guard)?;
         let unfit = self.core.set_rp_sets(&self.settings.rp_sets)?;
         unfit.iter().for_each(|line| warn!("{line}"));
+        self.listen()?;
         self.ports.iter().try_for_each(|port| self.core.speak(port.number, port.settings.speech))
     }
 
@@ -315,8 +320,23 @@ impl Daemon {
     /// The same; where the event has a stand-in for a packet, that leaves itself.
     fn take_for(&mut self, event: Event, packet: Option<&[u8]>) -> Result<Answer, Fatal> {
         let began = Instant::now();
-        self.counters.events += 1;
         let answer = self.core.take(event)?;
+        self.was_answered(event, answer, packet);
+        self.counters.took.note(began.elapsed());
+        Ok(answer)
+    }
+
+    /// An event that follows of the one before, and all that follows of it.
+    fn take_also(&mut self, event: Event) -> Result<Answer, Fatal> {
+        let began = Instant::now();
+        let answer = self.core.take_also(event)?;
+        self.was_answered(event, answer, None);
+        self.counters.took.note(began.elapsed());
+        Ok(answer)
+    }
+
+    fn was_answered(&mut self, event: Event, answer: Answer, packet: Option<&[u8]>) {
+        self.counters.events += 1;
         match answer {
             Answer::Done => {
                 match packet {
@@ -325,12 +345,10 @@ impl Daemon {
                 }
                 self.follow();
             }
-            Answer::Ignored => self.counters.ignored += 1,
+            Answer::Ignored | Answer::OtherType => self.counters.ignored += 1,
             Answer::Guarded => self.note_guarded(event),
             Answer::Refused(refusal) => *self.counters.refused.entry(refusal as u32).or_default() += 1,
         }
-        self.counters.took.note(began.elapsed());
-        Ok(answer)
     }
 
     /// The guard stopped a packet.
@@ -363,7 +381,7 @@ impl Daemon {
             self.look()?;
         }
         let began = Instant::now();
-        self.take(Event::Advance(now))?;
+        self.pass_to(now)?;
         self.pace = Pace::after(now, began.elapsed());
         // Where no timer ends nothing differs but the moment.
         if is_due {
@@ -510,6 +528,9 @@ fn send_on(kernel: &mut dyn Kernel, port: Option<&mut Port>, is_passive: bool, b
     };
     let packet = Packet::read(bytes);
     if is_passive && packet.map_or(false, Packet::is_pim_of_link) {
+        return;
+    }
+    if port.settings.is_bsr_border && packet.map_or(false, |packet| is_pim(packet, BOOTSTRAP)) {
         return;
     }
     let hello = packet

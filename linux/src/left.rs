@@ -12,7 +12,7 @@ use std::io::{self, Write};
 use std::net::Ipv4Addr;
 use std::os::unix::fs::OpenOptionsExt;
 use std::path::Path;
-use viqeshor::RpSet;
+use viqeshor::{Range, RpSet};
 
 const MAGIC: &[u8; 4] = b"VQRD";
 const VERSION: u16 = 1;
@@ -141,6 +141,20 @@ impl LeftEntry {
     }
 }
 
+/// A range of groups, and its RP.
+#[derive(Clone, Debug, PartialEq, Eq, Serialize, Deserialize)]
+pub struct LeftRange {
+    prefix: Ipv4Addr,
+    length: u32,
+    rp: Ipv4Addr,
+}
+
+impl LeftRange {
+    pub fn of(ranges: &[Range]) -> Vec<LeftRange> {
+        ranges.iter().map(|it| LeftRange { prefix: it.prefix, length: it.length, rp: it.rp }).collect()
+    }
+}
+
 #[derive(Clone, Debug, PartialEq, Eq, Serialize, Deserialize)]
 pub struct Left {
     /// Of which start of the machine it is.
@@ -159,6 +173,9 @@ pub struct Left {
     /// Of a router that was made anew, and learns.
     pub learned: Option<u64>,
     pub unlearned: u64,
+    /// The ranges of the file, of a router that hears Bootstraps.
+    #[serde(default)]
+    pub ranges: Option<Vec<LeftRange>>,
     /// The processes that write answers.
     pub answers: Vec<i32>,
     /// The router that left it had ended in order, so that nothing happened since.
@@ -329,6 +346,7 @@ mod tests {
             entries: vec![LeftEntry::of(key, &entry)],
             learned: Some(11),
             unlearned: 12,
+            ranges: Some(LeftRange::of(&[Range::new([239, 0, 0, 0].into(), 8, [10, 0, 0, 9].into())])),
             answers: vec![13],
             is_in_order: true,
         }

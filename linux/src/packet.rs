@@ -147,10 +147,18 @@ fn pseudo_header(packet: Packet) -> [u8; 12] {
 
 /// The type of a Hello.
 pub const HELLO: u8 = 0;
+pub const BOOTSTRAP: u8 = 4;
 
 /// Whether a packet is a PIM message of a type, with a whole header.
 pub fn is_pim(packet: Packet, kind: u8) -> bool {
     packet.protocol() == PIM && packet.content().len() >= 4 && packet.content()[0] == 0x20 | kind
+}
+
+/// The BSR of a Bootstrap (RFC 5059, 4.1), which is in the BSR's encoded address.
+pub fn bsr_of(packet: Packet) -> Option<Ipv4Addr> {
+    const ADDRESS_AT: usize = 10;
+    let has_one = is_pim(packet, BOOTSTRAP) && packet.content().len() >= ADDRESS_AT + 4;
+    has_one.then(|| address(packet.content(), ADDRESS_AT))
 }
 
 /// What message of PIM or IGMP a packet is; `None` for data.

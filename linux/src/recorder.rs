@@ -190,7 +190,7 @@ impl Recorder {
             Event::Up(iface) => Call { letter: kind(b'+'), iface, ..call }.put(&[], to),
             Event::Down(iface) => Call { letter: kind(b'-'), iface, ..call }.put(&[], to),
             Event::Routes(routes) => call.put_routes(routes, to),
-            Event::Ranges(ranges) => call.put_ranges(ranges, to),
+            Event::Ranges(ranges) | Event::Learned(ranges) => call.put_ranges(ranges, to),
             Event::Seen(iface, key) => {
                 let (source, group) = (key.source.into(), key.group.into());
                 Call { letter: kind(b's'), iface, source, group, ..call }.put(&[], to)

@@ -16,7 +16,7 @@ use std::fmt;
 use std::net::{Ipv4Addr, SocketAddr};
 use std::path::PathBuf;
 use toml::Spanned;
-use viqeshor::{OlderHosts, QueryVersion, RpSet};
+use viqeshor::{OlderHosts, QueryVersion, Range, RpSet};
 
 /// Linux has 32 virtual interfaces, and the register tunnel is one.
 pub const MOST_INTERFACES: usize = 31;
@@ -145,6 +145,8 @@ pub struct InterfaceSettings {
     pub bfd: Option<Times>,
     pub speech: Speech,
     pub policy: InterfacePolicy,
+    /// Bootstraps are neither heard nor sent there.
+    pub is_bsr_border: bool,
     /// Where it stands in the file.
     pub line: usize,
 }
@@ -177,6 +179,22 @@ pub struct RpSettings {
     pub address: Ipv4Addr,
 }
 
+impl RpSettings {
+    /// Of a range that the library tells.
+    pub fn of(range: &Range) -> RpSettings {
+        RpSettings { groups: Subnet { address: range.prefix, length: range.length as u8 }, address: range.rp }
+    }
+}
+
+/// How Bootstraps (RFC 5059) are heard.
+#[derive(Clone, Debug, PartialEq, Eq)]
+pub struct BsrSettings {
+    /// The most RPs that are kept.
+    pub limit: u32,
+    /// The BSRs that are believed; all where there is no list.
+    pub from: Option<Vec<Ipv4Addr>>,
+}
+
 #[derive(Clone, Debug, PartialEq, Eq)]
 pub struct RouteSettings {
     /// The kernel's table; else the one of the router's domain.
@@ -207,6 +225,8 @@ pub struct Settings {
     pub rps: Vec<RpSettings>,
     /// RPs that share an address.
     pub rp_sets: Vec<RpSet>,
+    /// Bootstraps are heard.
+    pub bsr: Option<BsrSettings>,
     pub policy: PolicySettings,
     pub routes: RouteSettings,
     pub level: LevelFilter,
@@ -270,6 +290,16 @@ struct File {
     rp: Vec<RpTable>,
     #[serde(default)]
     anycast: Vec<AnycastTable>,
+    #[serde(default)]
+    bsr: BsrTable,
+}
+
+#[derive(Deserialize, Default)]
+#[serde(deny_unknown_fields)]
+struct BsrTable {
+    listen: Option<bool>,
+    limit: Whole,
+    from: Option<Vec<Spanned<String>>>,
 }
 
 #[derive(Deserialize, Default)]
@@ -357,6 +387,7 @@ struct InterfaceTable {
     passive: Option<bool>,
     unnumbered: Option<bool>,
     neighbors: Option<Vec<Spanned<String>>>,
+    bsr_border: Option<bool>,
     join: Option<Vec<RuleTable>>,
     send: Option<Vec<RuleTable>>,
     max_neighbors: Whole,
@@ -612,6 +643,7 @@ impl Check<'_> {
             bfd: self.bfd(table),
             speech: self.speech(table, older_hosts),
             policy: self.policy(table, of_all, usual),
+            is_bsr_border: table.bsr_border.unwrap_or(false),
             line: self.line(table.name.start()),
         };
         let stranger = settings.address.and_then(|subnet| settings.strangers(&[subnet]).next());
@@ -755,6 +787,14 @@ impl Check<'_> {
         found
     }
 
+    fn bsr(&mut self, table: &BsrTable) -> Option<BsrSettings> {
+        let limit = self.within("limit", &table.limit, MOST_RANGES as u32, 1, MOST_RANGES as u32);
+        let of =
+            |check: &mut Self, given: &Vec<_>| given.iter().filter_map(|it| check.reached(it, "the BSR")).collect();
+        let from = table.from.as_ref().map(|given| of(self, given));
+        table.listen.unwrap_or(false).then_some(BsrSettings { limit, from })
+    }
+
     fn routes(&mut self, table: &RoutesTable) -> RouteSettings {
         const MOST: u32 = 0x7fff_fffe;
         let preference = self.within("preference", &table.preference, 110, 0, MOST);
@@ -882,6 +922,7 @@ impl Check<'_> {
             interfaces: self.interfaces(file, &usual),
             rps: self.rps(&file.rp),
             rp_sets: self.rp_sets(&file.anycast),
+            bsr: self.bsr(&file.bsr),
             policy: self.policy_of_none(&file.policy, &usual),
             routes: self.routes(&file.routes),
             level: self.one_of("log", &file.log, &LEVELS),
@@ -1050,6 +1091,21 @@ mod tests {
         assert_eq!(eth0.speech, Speech { older_hosts: OlderHosts::All, queries: QueryVersion::Three });
         assert_eq!((it.control.path, it.control.group, it.control.mode), (USUAL_SOCKET.into(), None, 0o600));
         assert_eq!(it.metrics, None);
+        assert!(it.bsr.is_none() && !eth0.is_bsr_border);
+    }
+
+    #[test]
+    fn bootstraps_are_heard() {
+        let of = |bsr: &str| read(&format!("{SMALL}bsr_border = true\n[bsr]\n{bsr}"));
+        let usual = of("listen = true\n").unwrap();
+        assert_eq!(usual.bsr, Some(BsrSettings { limit: 256, from: None }));
+        assert!(usual.interfaces[0].is_bsr_border);
+        assert_eq!(of("listen = false\nlimit = 7\n").unwrap().bsr, None);
+        let named = of("listen = true\nlimit = 7\nfrom = [\"10.0.0.9\"]\n").unwrap();
+        assert_eq!(named.bsr, Some(BsrSettings { limit: 7, from: Some(vec![[10, 0, 0, 9].into()]) }));
+        let wrong = |bsr: &str| only(&format!("{SMALL}[bsr]\n{bsr}"));
+        assert_eq!(wrong("limit = 0\n"), (4, "limit is 0; it is to be 1 to 256".to_string()));
+        assert_eq!(wrong("from = [\"224.0.0.1\"]\n"), (4, "the BSR 224.0.0.1: it is no address of a host".to_string()));
     }
 
     #[test]

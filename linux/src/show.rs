@@ -4,7 +4,7 @@ pub mod joins;
 mod sheet;
 mod why;
 
-use crate::daemon::Daemon;
+use crate::daemon::{Daemon, Rp};
 use crate::error::Fatal;
 use crate::metrics::{families, Family};
 use crate::older::Version;
@@ -17,7 +17,7 @@ use sheet::Sheet;
 use std::collections::{BTreeMap, BTreeSet, HashMap};
 use std::io::{self, Write};
 use std::net::Ipv4Addr;
-use viqeshor::{GroupRow, NeighbourRow, OlderRow, SourceRow, UpstreamRow};
+use viqeshor::{GroupRow, LearnedPart, NeighbourRow, OlderRow, Range, SourceRow, UpstreamRow};
 
 /// What can be shown.
 #[derive(Clone, Copy, Debug, PartialEq, Eq, ValueEnum)]
@@ -32,6 +32,8 @@ pub enum Topic {
     Igmp,
     /// RPs, and the routes to them
     Rp,
+    /// The bootstrap router, and the RPs that are learned of it
+    Bsr,
     /// Interfaces, and why one is down
     Interfaces,
     /// What neighbours have joined
@@ -54,6 +56,7 @@ impl Topic {
             Topic::Neighbors => "neighbors",
             Topic::Igmp => "igmp",
             Topic::Rp => "rp",
+            Topic::Bsr => "bsr",
             Topic::Interfaces => "interfaces",
             Topic::Joins => "joins",
             Topic::Upstream => "upstream",
@@ -160,6 +163,7 @@ fn rows(daemon: &mut Daemon, asked: &Asked, sheet: &mut Sheet) -> io::Result<()>
         Topic::Asserts => return joins::asserts(daemon, about, sheet),
         Topic::Neighbors => neighbours(daemon)?,
         Topic::Rp => rp(daemon)?,
+        Topic::Bsr => bsr(daemon),
         Topic::Interfaces => interfaces(daemon)?,
         Topic::Rpf => joins::rpf(daemon, asked.addresses.first().copied())?,
         Topic::Counters => counters(daemon)?,
@@ -208,12 +212,13 @@ fn rp(daemon: &mut Daemon) -> Result<Rows, Fatal> {
     let mut groups: BTreeSet<u32> = joined.iter().map(|row| u32::from(row.group)).collect();
     groups.extend(daemon.core.rows_of::<GroupRow>()?.iter().map(|row| u32::from(row.group)));
     let groups: Vec<_> = groups.into_iter().map(|group| (group, rp_of(daemon, group))).collect();
-    let ranges = &daemon.settings.rps;
+    let (ranges, now) = (daemon.rps(), daemon.now());
     let others = |rp: Ipv4Addr| {
         let set = daemon.core.rp_sets().iter().find(|set| set.shared == rp);
         set.iter().flat_map(|set| &set.others).map(Ipv4Addr::to_string).collect::<Vec<_>>()
     };
-    let row = |range: &RpSettings| {
+    let row = |rp: &Rp| {
+        let range = &rp.range;
         let is_here = is_here(daemon, range.address);
         let way = way(daemon, range.address).filter(|_| !is_here);
         let is_used =
@@ -226,9 +231,33 @@ fn rp(daemon: &mut Daemon) -> Result<Rows, Fatal> {
             ("interface", way.map_or(Value::Null, |(iface, _)| json!(daemon.name(iface)))),
             ("next_hop", way.map_or(Value::Null, |(_, hop)| json!(hop.to_string()))),
             ("used_by", json!(groups.iter().filter(is_used).count())),
+            ("from", json!(if rp.learned.is_some() { "bsr" } else { "file" })),
+            ("expires_seconds", until(rp.learned.map(|learned| learned.end), now)),
         ]
     };
     Ok(ranges.iter().map(row).collect())
+}
+
+/// The elected BSR, the RPs that are learned, and those that wait for other fragments of their message.
+fn bsr(daemon: &mut Daemon) -> Rows {
+    let now = daemon.now();
+    let row = |what: &str, groups: Value, address: Ipv4Addr, priority: u32, (in_use, end): (Value, u64)| {
+        vec![
+            ("what", json!(what)),
+            ("groups", groups),
+            ("address", json!(address.to_string())),
+            ("priority", json!(priority)),
+            ("in_use", in_use),
+            ("expires_seconds", until(Some(end), now)),
+        ]
+    };
+    let groups = |range: &Range| json!(RpSettings::of(range).groups.to_string());
+    let elected = daemon.core.elected();
+    let elected = elected.iter().map(|it| row("BSR", Value::Null, it.bsr, it.priority, (Value::Null, it.end)));
+    let (rps, parts) = (daemon.core.learned(), daemon.core.learned_parts());
+    let rps = rps.iter().map(|it| row("RP", groups(&it.range), it.range.rp, it.priority, (json!(it.is_given), it.end)));
+    let waits = |it: &LearnedPart| row("waits", groups(&it.range), it.range.rp, it.priority, (json!(false), it.end));
+    elected.chain(rps).chain(parts.iter().map(waits)).collect()
 }
 
 // ---- neighbours, interfaces, IGMP
@@ -367,6 +396,10 @@ pub fn counts(daemon: &Daemon) -> Vec<Count> {
         count(&families::PACKETS_SEEN_TOTAL, it.seen),
         count(&families::ROUTER_MADE_ANEW_TOTAL, it.made_anew),
         count(&families::ROUTER_RELOADED_TOTAL, it.reloaded),
+        count(&families::BOOTSTRAPS_TAKEN_TOTAL, it.bootstraps_taken),
+        count(&families::BOOTSTRAPS_LEFT_OUT_TOTAL, it.bootstraps_left_out),
+        count(&families::BOOTSTRAP_MOVES_TOTAL, it.bootstrap_moves),
+        count(&families::BOOTSTRAP_RPS, daemon.core.learned().len() as u64),
         count(&families::OWN_REPORTS_TOTAL, it.own_reports),
         count(&families::UNICASTS_RECEIVED_TOTAL, it.unicasts_heard),
         count(&families::UNICASTS_SENT_TOTAL, it.unicasts_sent),

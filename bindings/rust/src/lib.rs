@@ -29,10 +29,12 @@ use std::os::raw::{c_char, c_void};
 use std::ptr::{null_mut, NonNull};
 use std::str::FromStr;
 
+mod bsr;
 mod record;
 mod rows;
 mod trees;
 
+pub use bsr::{Bsr, Elected, Heard, LearnedPart, LearnedRp};
 pub use record::Call;
 pub use rows::{
     ActiveRow, AssertRow, DownstreamRow, DownstreamState, GroupRow, NeighbourRow, RegisterState, Row, RptRow,
@@ -43,7 +45,7 @@ pub use trees::{Hop, LanDelay, Link, Neighbour, Path, Querier, Querying, Rpf, Rp
 /// The most bytes that a packet has.
 pub const MOST_BYTES: usize = 1528;
 /// What this crate and the library have to agree on: `VIQ_ABI` of `viqeshor.h`.
-pub const ABI: u32 = 9;
+pub const ABI: u32 = 10;
 
 const DONE: u32 = 0;
 const MEMORY: u32 = 40;
@@ -437,6 +439,16 @@ numbered! {
         Already = 108,
         /// The guard stopped IGMP or PIM that would be forwarded as data.
         Guarded = 109,
+        /// The Bootstrap's BSR is the router itself.
+        OwnBsr = 110,
+        /// The Bootstrap is of an admin scope zone.
+        Scoped = 111,
+        /// The Bootstrap is for a router that has just started.
+        LateRefresh = 112,
+        /// The Bootstrap doesn't come from the RPF neighbour of its BSR.
+        NotFromRpf = 113,
+        /// The Bootstrap's BSR has less weight than the elected one.
+        NotPreferred = 114,
     }
 }
 
@@ -1286,8 +1298,8 @@ impl Router {
     }
 
     /// Packets came on interfaces, to groups, one after the other: each is an event, as by `frame`, in its turn. Returns
-    /// what became of those that were given: all up to the first one after which packets are untaken, `touched` isn't 0,
-    /// or the router is lost; at least one where there is one. Each but the last of them sent nothing, and changed no row
+    /// what became of those that were given: all up to the first one that is ignored by `Reason::OtherType`, or after
+    /// which packets are untaken, `touched` isn't 0, or the router is lost; at least one where there is one. Each but the last of them sent nothing, and changed no row
     /// of a source with a fact. The program does what it does after an event, and gives the rest by another call.
     pub fn frames(&mut self, frames: &[Received<'_>]) -> Vec<Result<Verdict, Error>> {
         let given: Vec<_> = frames.iter().map(Received::given).collect();

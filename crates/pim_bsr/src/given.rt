@@ -20,7 +20,7 @@ fn is_configured(configured: &[RpRange], learned: Learned) -> bool
 }
 
 /// Whether the router is given an RP.
-fn is_given(configured: &[RpRange], rps: &[Learned], learned: Learned) -> bool
+pub(crate) fn is_given(configured: &[RpRange], rps: &[Learned], learned: Learned) -> bool
     ensures { result ≡ is_given configured.now rps.now learned }
 {
     !is_configured(configured, learned) && is_chosen(rps, learned)

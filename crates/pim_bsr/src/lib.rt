@@ -14,5 +14,5 @@ mod table;
 
 pub use heard::{Heard, Why};
 pub use learned::{Elected, Learned, Part};
-pub use listener::Listener;
+pub use listener::{Listener, MOST_RPS};
 pub use surroundings::Surroundings;

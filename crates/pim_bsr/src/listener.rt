@@ -2,11 +2,11 @@
 ghost use Rattle.std.specs.Prelude.{◌≡◌, [], filter, false, not, None, IfOk, IsOk, OnErr, OnOk};
 ghost use Rattle.pim_model.specs.Limits.{are_rps};
 ghost use Rattle.pim_bsr.specs.Joined.{first_end, is_due};
-ghost use Rattle.pim_bsr.specs.Table.{at_time, configured, elected_at, given, given_of, room_beside, runs, same_ranges};
+ghost use Rattle.pim_bsr.specs.Table.{at_time, configured, elected_at, given, given_of, is_given, room_beside, runs, same_ranges};
 
 mod hear;
 
-use crate::given::{first_end, given_of, moves};
+use crate::given::{first_end, given_of, is_given, moves};
 use crate::learned::{Elected, Learned, Part};
 use crate::table::Table;
 use pim_types::RpRange;
@@ -14,7 +14,7 @@ use std::alloc::{AllocError, Global};
 use std::marker::Model;
 
 /// The most RP ranges that a router takes.
-const MOST_RPS: usize = 256;
+pub const MOST_RPS: usize = 256;
 
 /// What a router that is no candidate BSR learned of Bootstraps (RFC 5059), beside its configured RP ranges.
 ///
@@ -157,6 +157,13 @@ impl Listener {
         ensures { result ≡ self.now.elected }
     {
         self.elected
+    }
+
+    /// Whether the router is given an RP: its range isn't configured, and it is the one that is chosen of its range.
+    pub fn is_given(&self, learned: Learned) -> bool
+        ensures { result ≡ is_given self.now.static self.now.table.rps learned }
+    {
+        is_given(self.configured.as_slice(), self.table.rps(), learned)
     }
 
     /// The RP ranges that the router is given: the configured ones, and of each learned one that isn't configured the RP

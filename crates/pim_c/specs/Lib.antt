@@ -1,3 +1,4 @@
+pub mod Bootstraps
 pub mod Called
 pub mod Given
 pub mod Kept

@@ -2,9 +2,13 @@
 //! of them.
 #![tactic(auto)]
 
+pub mod bootstraps;
 pub mod calls;
 pub mod given;
 pub mod handle;
+pub mod learned;
+pub mod listener_place;
+pub mod listening;
 pub mod place;
 pub mod pointed;
 pub mod recorded;

@@ -44,6 +44,8 @@ pub const NO_TIMER: u32 = 52;
 pub const NO_SETTING: u32 = 54;
 /// Packets of the event before are untaken, and nothing has changed.
 pub const UNTAKEN: u32 = 55;
+/// The handle has no listener for Bootstraps.
+pub const NO_LISTENER: u32 = 56;
 /// The guard stopped the event.
 pub const GUARDED: u32 = 109;
 /// A packet that leaves on an interface and is no copy.
@@ -59,8 +61,8 @@ pub const NEVER: u64 = u64::MAX;
 /// No interface.
 pub const NO_INTERFACE: u32 = u32::MAX;
 
-// The number of a reason to ignore an event, as C reads it.
-fn ignored_number(reason: Ignored) -> u32
+/// The number of a reason to ignore an event, as C reads it.
+pub(crate) fn ignored_number(reason: Ignored) -> u32
     ensures { result ≡ ignored_number reason }
 {
     match reason {

@@ -1,6 +1,7 @@
 pub mod Counted
 pub mod FrontLaws
 pub mod Guarding
+pub mod Hearing
 pub mod SetLaws
 pub mod Sharing
 pub mod Taking

@@ -1,6 +1,7 @@
 pub mod Leaving
 pub mod Behind
 pub mod Front
+pub mod Heard
 pub mod Laws
 pub mod Placed
 pub mod Reloaded

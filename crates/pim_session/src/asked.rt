@@ -3,9 +3,10 @@ ghost use Rattle.std.specs.Prelude.{◌≡◌};
 
 use igmp_older::Querier;
 use pim_anycast::{OwnAddresses, Rendezvous};
+use pim_bsr::Surroundings;
 use pim_router::Router;
 use pim_types::fact::GroupRecordRow;
-use pim_types::{Addr, IfaceId, SourceGroup};
+use pim_types::{Addr, Hop, IfaceId, SourceGroup};
 use std::alloc::{AllocError, Global};
 use std::marker::Model;
 
@@ -92,5 +93,40 @@ impl<'a> Rendezvous for Asked<'a> {
     #[tactic(auto, unfolding(pim_anycast::specs::Announced::is_local, pim_anycast::specs::Announced::local_keys))]
     fn local_sources(&self, alloc: Global) -> Result<Vec<SourceGroup>, AllocError> {
         self.router.local_sources(alloc)
+    }
+}
+
+impl<'a> Surroundings for Asked<'a> {
+    ghost use Rattle.pim_session.specs.Heard.{around_in};
+
+    ghost around = { λ q. around_in q.standing };
+
+    fn present_moment(&self) -> u64 {
+        self.router.present_moment()
+    }
+
+    fn is_own(&self, address: Addr) -> bool {
+        self.router.is_own(address)
+    }
+
+    fn is_neighbour(&self, iface: IfaceId, address: Addr) -> bool {
+        self.router.is_neighbour(iface, address)
+    }
+
+    #[tactic(auto, unfolding(pim_bsr::specs::Hearing::rpf_hop))]
+    fn rpf_neighbour(&self, address: Addr) -> Option<Hop> {
+        self.router.rpf_neighbour(address)
+    }
+
+    fn interface_count(&self) -> u32 {
+        self.router.interface_count()
+    }
+
+    fn has_neighbours(&self, iface: IfaceId) -> bool {
+        self.router.has_neighbours(iface)
+    }
+
+    fn address(&self, iface: IfaceId) -> Addr {
+        self.router.address(iface)
     }
 }

@@ -35,6 +35,7 @@ ghost use Rattle.std.specs.List.Sorted.{IsStrictlySortedBy};
 ghost use Rattle.std.specs.Option.{option_map_or};
 ghost use Rattle.std.specs.Prelude.{◌≡◌, ◌↔◌, [], Err, IfErr, IfOk, IfSome, IsOkUnless, IsSome, IsTrue, None, Ok, OnErr, OnOk, Some, drop, min, true};
 
+mod bootstraps;
 mod guarded;
 mod placed;
 mod reloaded;

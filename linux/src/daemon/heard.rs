@@ -87,6 +87,9 @@ impl Daemon {
         let asserted = self.asserted(number, let_in);
         let answer = self.take(Event::Frame(number, let_in))?;
         self.after(answer, let_in);
+        if answer == Answer::OtherType {
+            self.hear_bootstrap(number, let_in)?;
+        }
         if answer == Answer::Done {
             self.watch_older(number, let_in);
             asserted.iter().for_each(|asserted| self.watch_forwarder(number, let_in, asserted));

@@ -51,6 +51,7 @@ impl Daemon {
             entries: self.plane.entries().map(|(key, entry)| LeftEntry::of(*key, entry)).collect(),
             learned: self.due.learned,
             unlearned: self.due.unlearned,
+            ranges: self.left_ranges(),
             answers: Vec::new(),
             is_in_order: false,
         }
@@ -139,8 +140,10 @@ impl Daemon {
         let Daemon { policy, core, kernel, machine, ports, .. } = self;
         policy.resume(&mut super::Ledger { core, kernel: kernel.as_ref(), machine, ports });
         self.advance()?;
-        let ranges = ranges_of(&self.settings.rps);
-        self.take(Event::Ranges(&ranges))?;
+        if !self.keeps_learned(left.ranges.as_deref()) {
+            let ranges = ranges_of(&self.settings.rps);
+            self.take(Event::Ranges(&ranges))?;
+        }
         self.all_unknown_may_differ();
         info!(
             "the router goes on where the one before it was: {} neighbours, {} entries, {} ms later",

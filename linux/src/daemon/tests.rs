@@ -641,6 +641,7 @@ fn the_unknown_are_asked_for_anew_where_their_group_moves() {
     assert!(fake.entry(one) != fake.entry(other));
 }
 
+mod bootstraps;
 mod liveness;
 mod older;
 mod overridden;

@@ -196,7 +196,9 @@ impl Daemon {
             new.domain = self.settings.domain.clone();
         }
         log::set_max_level(new.level);
-        let (are_rps_new, is_router_new) = (new.rps != self.settings.rps, self.settings.differs_in_router(&new));
+        let is_limit_new = new.bsr.as_ref().map_or(false, |bsr| self.core.set_limit(bsr.limit));
+        let are_rps_new = new.rps != self.settings.rps || is_limit_new;
+        let is_router_new = self.settings.differs_in_router(&new);
         self.settings = new;
         crate::ports::take_settings(&mut self.ports, &self.settings.interfaces);
         self.set_policy();
@@ -204,7 +206,9 @@ impl Daemon {
         self.neighbours.are_stale = true;
         if is_router_new {
             self.reconfigure("the settings differ")?;
-        } else if are_rps_new {
+        }
+        // With a configuration the library's router is given the ranges of the file, but where RPs are learned beside them.
+        if are_rps_new && (!is_router_new || self.core.listens()) {
             self.set_ranges()?;
         }
         self.speak()?;
@@ -217,7 +221,7 @@ impl Daemon {
         Ok(())
     }
 
-    fn set_ranges(&mut self) -> Result<(), Fatal> {
+    pub(super) fn set_ranges(&mut self) -> Result<(), Fatal> {
         self.advance()?;
         let ranges = ranges_of(&self.settings.rps);
         if let Answer::Refused(refusal) = self.take(Event::Ranges(&ranges))? {
@@ -304,6 +308,7 @@ impl Daemon {
             due.unset,
             due.addresses,
             due.learned,
+            due.unheard,
             self.successor.due(self.now()),
             self.core.record_due(),
             Some(self.keeping.due(self.now())).filter(|_| self.settings.restart.saves),
@@ -384,6 +389,9 @@ impl Daemon {
         }
         if is_due(self.due.learned) {
             self.has_learned()?;
+        }
+        if is_due(self.due.unheard) {
+            self.forget_unheard()?;
         }
         if is_due(self.routing.due) {
             self.read_routes()?;

@@ -120,6 +120,20 @@ pub const ROUTER_RELOADED_TOTAL: Family = Family {
     kind: Kind::Counter,
     help: "The number of times that the router took another configuration.",
 };
+pub const BOOTSTRAPS_TAKEN_TOTAL: Family =
+    Family { name: "bootstraps_taken_total", kind: Kind::Counter, help: "The number of Bootstraps that counted." };
+pub const BOOTSTRAPS_LEFT_OUT_TOTAL: Family = Family {
+    name: "bootstraps_left_out_total",
+    kind: Kind::Counter,
+    help: "The number of Bootstraps that didn't count.",
+};
+pub const BOOTSTRAP_MOVES_TOTAL: Family = Family {
+    name: "bootstrap_moves_total",
+    kind: Kind::Counter,
+    help: "The number of times that Bootstraps moved the RPs.",
+};
+pub const BOOTSTRAP_RPS: Family =
+    Family { name: "bootstrap_rps", kind: Kind::Gauge, help: "The number of RPs learned of Bootstraps." };
 pub const POLICY_REFUSED_TOTAL: Family = Family {
     name: "policy_refused_total",
     kind: Kind::Counter,

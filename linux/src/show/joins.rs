@@ -185,8 +185,8 @@ pub fn upstream(daemon: &mut Daemon, about: About, sheet: &mut Sheet) -> io::Res
 /// The ways to an address, or to all RPs and sources that the router has something to do with.
 pub fn rpf(daemon: &mut Daemon, to: Option<Ipv4Addr>) -> Result<Rows, Fatal> {
     let mut asked: BTreeMap<Ipv4Addr, BTreeSet<&'static str>> = BTreeMap::new();
-    for range in &daemon.settings.rps {
-        asked.entry(range.address).or_default().insert("RP");
+    for rp in daemon.rps() {
+        asked.entry(rp.range.address).or_default().insert("RP");
     }
     let mut sources: Vec<_> = daemon.core.rows_of::<ActiveRow>()?.iter().map(|row| row.source).collect();
     sources.extend(daemon.core.rows_of::<UpstreamRow>()?.iter().filter_map(|row| row.source));

@@ -16,7 +16,8 @@ A packet that is to be sent is kept until `packets` or `run_to` returns it, what
 
 A moment is a timestamp, in milliseconds from any beginning, at most 2**62. The shared library is the one that `library`
 names, or VIQESHOR_LIBRARY in the environment, or the one in the package's folder, or the one that the system loads as
-`libviqeshor.so.0.9`. `viqeshor.hosts` writes packets of hosts, and `viqeshor.lab` plays whole networks.
+`libviqeshor.so.0.9`. `viqeshor.hosts` writes packets of hosts, `viqeshor.bsr` learns RPs of Bootstraps, and
+`viqeshor.lab` plays whole networks.
 """
 import ctypes
 import enum
@@ -96,7 +97,7 @@ Buffer: TypeAlias = bytes | bytearray | memoryview
 Interface: TypeAlias = str | IPv4Interface | tuple[Any, ...]
 
 # What this package and the library have to agree on: VIQ_ABI of viqeshor.h.
-ABI = 9
+ABI = 10
 NEVER, NO_INTERFACE, NO_PLACE, MOST_BYTES = 2**64 - 1, 2**32 - 1, 2**32 - 1, 1528
 # The letters of the tables.
 TABLES = "NGSDAURF"
@@ -146,6 +147,7 @@ class Answer(enum.IntEnum):
     OTHER_ABI = 53
     NO_SETTING = 54
     UNTAKEN = 55
+    NO_LISTENER = 56
     NOT_OURS = 60
     OTHER_VERSION = 61
     CUT_SHORT = 62
@@ -167,6 +169,11 @@ class Answer(enum.IntEnum):
     NOT_RP = 107
     ALREADY = 108
     GUARDED = 109
+    OWN_BSR = 110
+    SCOPED = 111
+    LATE_REFRESH = 112
+    NOT_FROM_RPF = 113
+    NOT_PREFERRED = 114
 
     @classmethod
     def _missing_(cls, value: object) -> Self | None:
@@ -221,6 +228,7 @@ RAISED: dict[Answer, type[Error]] = {
     Answer.LOST: Lost,
     Answer.FAILED: Lost,
     Answer.NO_ROUTER: Closed,
+    Answer.NO_LISTENER: Closed,
     Answer.OTHER_ABI: OtherVersion,
 }
 

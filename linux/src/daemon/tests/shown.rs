@@ -1,4 +1,5 @@
 //! What operators see and clear: `show`, its schemas, the metrics, `clear`.
+use super::bootstraps::{bootstrap, listening};
 use super::*;
 use crate::daemon::cleared::Lines;
 use crate::metrics::{text, Http};
@@ -45,10 +46,11 @@ fn hello_of(from: [u8; 4]) -> (Source, kernel::Event) {
 
 /// A router with something in each of its tables.
 fn busy() -> (Daemon, Rc<Fake>) {
-    let (mut daemon, fake) = begun(TWO, &both());
+    let (mut daemon, fake) = begun(&listening(), &both());
     let (own, far) = (Ipv4Addr::new(239, 1, 1, 1), Ipv4Addr::new(239, 2, 1, 1));
     for event in [
         hello_of([10, 1, 0, 3]),
+        bootstrap(&[([239, 1, 0, 0], 16, [10, 9, 0, 7])]),
         report(ETH1, [10, 5, 0, 77], own),
         report(ETH1, [10, 5, 0, 77], far),
         join_prune(

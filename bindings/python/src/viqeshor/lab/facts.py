@@ -46,6 +46,11 @@ IGNORED = {
     "NotRp": 107,
     "Already": 108,
     "Guarded": 109,
+    "OwnBsr": 110,
+    "Scoped": 111,
+    "LateRefresh": 112,
+    "NotFromRpf": 113,
+    "NotPreferred": 114,
 }
 # The numbers of the refusals of saved bytes, and of states that no router goes on from.
 REFUSED_BYTES = (60, 61, 62, 63, 64, 65, 69)

@@ -7,7 +7,7 @@ use types.{Logic.sem, Kit.{‵, raw, ◌⊛◌, ◌$◌, ◌∵◌, !, qed, by, 
 use contract.{Monad.{fact, fact_i}, Running.tables}
 use denote.{RattleType.owns, Memory.lone, RawPtr.{Ptr, block_ptr, null_ptr, ptr_val, in_a_block}, Signature.{types_at, plain}, Steps.{nothing, heard}, Triple.{Entry.alive, Walked.{Stays, stay_dropped, walk_of}}}
 use Rattle.std_alloc.{specs.Box.Ownership.box_owns}
-use Rattle.pim_c.{proofs.{PointedWords.{pair, pair_good, pointed_in, Row as To}, PlaceWords.{Z, laws, Row, place_out, value_of}, place.Place.into_pointed.Statement.statement}, specs.{Kept.kept, contracts.place.Place.into_pointed.{ended, clauses, Key.name as #self}}}
+use Rattle.pim_c.{proofs.{PointedWords.{pair, pair_good, pointed_in, Row as To}, PlaceWords.{Z, laws, place_out, value_of}, place.Place.into_pointed.Statement.statement}, specs.{Kept.kept, contracts.place.Place.{the_heap, the_row as Row, into_pointed.{ended, clauses, Key.name as #self}}}}
 use Rattle.pim_session.{specs.contracts.session.Session.the_row as session}
 use Rattle.pim_c.proofs.place.Place.into_pointed.Code as code
 
@@ -20,7 +20,7 @@ into_pointed_spec 𝓤 𝓛 𝓜 𝓡 wired =
     let Run : List Val → SProp 𝓤 = λ ws. WpFn 𝓤 H 𝓣.C 𝓣.Λ fn ws Post in
     qed 𝓛 ((raw (alive 𝓛 ended.signature z.0.0 z.0.1) ⊛ ‵ (owns (types_at ended.signature.params z.0.0) z.0.3 z.0.4)) ∷ raw (fact 𝓤 (IsSome v.inside)) ∷ []) ∵
     move ! (1 ∷ []) $ heard ! (IsSome v.inside) (λ is_there. let found = value_of v.inside is_there in let x = found.0 in let there : v.inside ≡ Some x = found.1 in
-    let held = λ (p : Ptr). box_owns (ghosts.dealloc_token a) session p x in split ! $ move ! (1 ∷ []) $ fsplit ! $ place_out ! v z.0.4.0 (λ h is fits.
+    let held = λ (p : Ptr). box_owns (ghosts.dealloc_token a) session p x in split ! $ move ! (1 ∷ []) $ fsplit ! $ place_out ! v.at v.alloc (the_heap v) z.0.4.0 (λ h is fits.
     rewrite ! 0 (λ (o : Option session.Denot). ‵ (kept (λ y. box_owns (ghosts.dealloc_token a) session v.at y) o)) there refl $ use1 𝓛 (‵ (held v.at)) (id⊢ 𝓤 _) $
     in_a_block ! v.at held (fst∗ 𝓤 (never 𝓤) (sem 𝓛 (ghosts.dealloc_token a (bare (lone session.mir)) null_ptr))) (λ b o e.
     let w : Val = pair (vptr b o) h in let typed = pair_good session Z laws ghosts b o h fits in

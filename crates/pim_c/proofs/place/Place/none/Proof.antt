@@ -6,7 +6,7 @@ use prog.{Wp.WpFn}
 use types.{Kit.{‵, raw, ◌⊛◌, ◌$◌, ◌∵◌, !, qed, by, move, keep, drop, split, fsplit, fjoin, suffices, use0}, Run.{lit, no_more, and_then, returns, enter}, ByLocal.{alloc_all, pass_all, free_all, look_at, get, sets}, Part.agg}
 use contract.{Monad.{fact, fact_i}, Running.tables}
 use denote.{RattleType.owns, RawPtr.{null_ptr, ptr_val}, Signature.{types_at, plain}, Steps.nothing, Triple.{Entry.alive, Walked.{Stays, stay_dropped, walk_of}}}
-use Rattle.pim_c.{proofs.{PointedWords.pair, PlaceWords.{Z, Row, handle, null_good, place_in}, place.Place.none.Statement.statement}, specs.contracts.place.Place.none.{ended, clauses, Key.name as #self}}
+use Rattle.pim_c.{proofs.{PointedWords.pair, PlaceWords.{Z, handle, null_good, place_in}, place.Place.none.Statement.statement}, specs.contracts.place.Place.{the_heap, the_row as Row, none.{ended, clauses, Key.name as #self}}}
 use Rattle.pim_c.proofs.place.Place.none.Code as code
 
 pub none_spec : {M : Type 1} → statement M
@@ -22,6 +22,6 @@ none_spec 𝓤 𝓛 𝓜 𝓡 wired =
     enter ! 𝓣.C 𝓣.Λ fn (h ∷ []) Post $ alloc_all ! (λ l. pass_all ! refl (fits, tt) $
     sets ! (agg ! (and_then ! (lit ! tt) (and_then ! (get ! refl) (no_more !)))) refl (null_good h fits) $
     returns ! (look_at ! 0 refl) $ free_all ! refl $
-    nothing ! $ place_in ! made h $
+    nothing ! $ place_in ! made.at made.alloc (the_heap made) h $
     use0 𝓛 (raw (fact 𝓤 (made.inside ≡ None))) (fact_i 𝓤 (made.inside ≡ None) (emp 𝓤) refl) $ nothing ! $ nothing ! $ fjoin ! $
     keep ! (4 ∷ 0 ∷ 2 ∷ 1 ∷ []) $ by ! (leaves 𝓛 ended stays c z (pair (ptr_val null_ptr) h) made (tt, tt) (tt, tt)))))

@@ -6,7 +6,7 @@ use prog.{Wp.WpFn}
 use types.{Kit.{‵, raw, ◌⊛◌, ◌$◌, ◌∵◌, !, qed, by, move, keep, drop, split, fsplit, fjoin, suffices, use0, use1}, Run.{stop, fld, of_opd, no_more, and_then, returns, enter}, ByLocal.{alloc_all, pass_all, free_all, look_at, get, get_in, sets}, Part.{agg, sub, whole}}
 use contract.{Monad.{fact, fact_i}, Running.tables}
 use denote.{RattleType.{RattleType, owns}, RawPtr.block_ptr, Signature.{types_at, plain}, Steps.nothing, Triple.{Entry.alive, Walked.{Stays, stay_dropped, walk_of}}}
-use Rattle.pim_c.{proofs.{PointedWords.{pair, pair_good, pointed_out, Row as From}, PlaceWords.{Z, laws, Row, place_in}, place.Place.of.Statement.statement}, specs.contracts.place.Place.{the_heap, of.{ended, clauses, Key.name as #self}}}
+use Rattle.pim_c.{proofs.{PointedWords.{pair, pair_good, pointed_out, Row as From}, PlaceWords.{Z, laws, place_in}, place.Place.of.Statement.statement}, specs.contracts.place.Place.{the_heap, the_row as Row, of.{ended, clauses, Key.name as #self}}}
 use Rattle.pim_session.{specs.contracts.session.Session.the_row as session}
 use Rattle.pim_c.proofs.place.Place.of.Code as code
 
@@ -30,6 +30,6 @@ of_spec 𝓤 𝓛 𝓜 𝓡 wired =
     sets ! (of_opd ! (get ! refl)) refl (tt, tt) $
     sets ! (agg ! (and_then ! (get ! refl) (and_then ! (get ! refl) (no_more !)))) refl typed $
     returns ! (look_at ! 0 refl) $ free_all ! refl $
-    use1 𝓛 (‵ (the_heap made)) (id⊢ 𝓤 _) $ place_in ! made h $
+    use1 𝓛 (‵ (the_heap made)) (id⊢ 𝓤 _) $ place_in ! made.at made.alloc (the_heap made) h $
     use0 𝓛 (raw (fact 𝓤 (made.inside ≡ Some v.value))) (fact_i 𝓤 (made.inside ≡ Some v.value) (emp 𝓤) refl) $ nothing ! $ nothing ! $ fjoin ! $
     keep ! (4 ∷ 0 ∷ 2 ∷ 1 ∷ []) $ by ! (leaves 𝓛 ended stays c z w made (tt, tt) (tt, tt)))))

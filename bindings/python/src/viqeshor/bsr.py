@@ -1,0 +1,333 @@
+"""RPs that are learned of Bootstraps (RFC 5059), which a listener hears before a router.
+
+    from viqeshor import Router
+    from viqeshor.bsr import Bsr
+
+    ranges = [("239.1.0.0/16", "10.9.9.9")]
+    with Router(["10.0.0.2/24"], ranges) as router, Bsr(ranges, refresh_end=60_000) as bsr:
+        router.up(0)
+        while True:
+            send(bsr.run_to(router, now()))                             # in place of router.run_to
+            for iface, packet in received(bsr.next_moment(router)):
+                bsr.frame(router, iface, packet)                        # in place of router.frame
+                send(router.packets())
+"""
+import ctypes
+import os
+import random
+import threading
+import weakref
+from collections.abc import Iterable
+from ctypes import POINTER, Structure, byref, c_bool, c_char_p, c_size_t, c_uint32, c_uint64, c_void_p
+from functools import cache
+from typing import Any, NamedTuple, Self
+
+from viqeshor import (
+    ABI,
+    LIST,
+    NEVER,
+    RAISED,
+    Answer,
+    Buffer,
+    Draw,
+    Refused,
+    Router,
+    Sent,
+    bytes_of,
+    found,
+    load,
+    number,
+    ranges_of,
+    there,
+)
+from viqeshor.rows import numbers
+from viqeshor.trees import dotted
+
+__all__ = ["Bsr", "Elected", "Heard", "LearnedPart", "LearnedRp"]
+
+LAST_MOMENT = 2**62
+
+
+class CElected(Structure):
+    _fields_ = [*numbers("bsr", "priority"), ("end", c_uint64)]
+
+
+class CRp(Structure):
+    _fields_ = [
+        *numbers("prefix", "length", "rp", "priority", "hash_length"),
+        ("is_given", c_bool),
+        ("end", c_uint64),
+    ]
+
+
+class CPart(Structure):
+    _fields_ = [*numbers("prefix", "length", "rp", "priority", "holdtime", "bsr", "tag"), ("end", c_uint64)]
+
+
+# What each call takes behind the listener, and what it answers.
+CALLS: dict[str, tuple[list[Any], Any]] = {
+    "end": ([], None),
+    "hear": ([c_void_p, c_uint32, c_char_p, c_size_t, POINTER(c_bool)], c_uint32),
+    "give": ([c_void_p, Draw], c_uint32),
+    "next": ([], c_uint64),
+    "pass": ([c_uint64, POINTER(c_bool)], c_uint32),
+    "ranges": ([c_void_p, c_uint32, *LIST, Draw], c_uint32),
+    "elected": ([POINTER(CElected)], c_bool),
+    "rps": ([], c_size_t),
+    "rp": ([c_size_t, POINTER(CRp)], c_bool),
+    "parts": ([], c_size_t),
+    "part": ([c_size_t, POINTER(CPart)], c_bool),
+}
+
+
+@cache
+def declared(path: str) -> ctypes.CDLL:
+    """The library, with what the calls of a listener take and answer."""
+    library = load(path)
+    for name, (takes, answers) in CALLS.items():
+        call = getattr(library, f"viq_bsr_{name}")
+        call.argtypes, call.restype = [c_void_p, *takes], answers
+    library.viq_bsr_new.argtypes = [POINTER(c_void_p), c_uint32, c_uint32, *LIST, c_uint64]
+    library.viq_bsr_new.restype = c_uint32
+    return library
+
+
+class Elected(NamedTuple):
+    """The elected bootstrap router: its address and its priority, of which the higher is preferred, and when its timer
+    expires, in ms: 130 s after its last message."""
+    bsr: str
+    priority: int
+    end: int
+
+
+class LearnedRp(NamedTuple):
+    """An RP of a learned range, in force: its priority, of which the lower is preferred, the bits of the hash
+    function's mask, whether the router is given it, and when its holdtime is over, in ms. It is given where its range
+    isn't configured and it is chosen of its range."""
+    groups: str
+    rp: str
+    priority: int
+    hash_length: int
+    is_given: bool
+    end: int
+
+
+class LearnedPart(NamedTuple):
+    """An RP of a range, of a message of which other fragments are missing: its priority and its holdtime, in seconds,
+    the message's BSR and fragment tag, and when it is forgotten, in ms. It isn't in force."""
+    groups: str
+    rp: str
+    priority: int
+    holdtime: int
+    bsr: str
+    tag: int
+    end: int
+
+
+class Heard(NamedTuple):
+    """What became of a packet: DONE where it is a Bootstrap that counts; and whether the router is to be given other
+    ranges."""
+    answer: Answer
+    moved: bool
+
+
+def groups_of(row: CRp | CPart) -> str:
+    return f"{dotted(row.prefix)}/{row.length}"
+
+
+def draw_of(draw: int | None) -> int:
+    return random.getrandbits(32) if draw is None else number(draw, 32, "a draw")
+
+
+class Bsr:
+    """A listener, which hears Bootstraps before a router and says which ranges this is to have: the configured ones,
+    and of each learned range the RP that a hash of the range's prefix chooses.
+
+    With a listener a program calls `frame`, `run_to`, `set_ranges` and `next_moment` of it in the place of those of the
+    router; `hear`, `give` and `pass_to` are their steps. A reload gives the router the ranges that it has (`given`),
+    and then `set_ranges` sets the new configured ones. A listener is freed by `end`, or with its last reference."""
+
+    def __init__(
+        self,
+        ranges: Iterable[tuple[str, str]] = (),
+        *,
+        limit: int = 256,
+        refresh_end: int = 0,
+        library: str | os.PathLike[str] | None = None,
+    ) -> None:
+        """The ranges are those that the router has. At most `limit` RPs are kept, 1 to 256, with those of messages of
+        which fragments are missing. Until the timestamp `refresh_end` one message may come that a neighbour sends to a
+        router which has just started: 60,000 ms after the router started, or 0 for none."""
+        self.lock = threading.RLock()
+        self.configured, made = list(ranges), c_void_p()
+        self._library = declared(os.fspath(library or found()))
+        given = number(limit, 32, "a limit"), *ranges_of(self.configured), number(refresh_end, 64, "a moment")
+        self._must(self._library.viq_bsr_new(byref(made), ABI, *given))
+        self._bsr: c_void_p | None = made
+        self._finalizer = weakref.finalize(self, self._library.viq_bsr_end, made)
+
+    def __enter__(self) -> Self:
+        return self
+
+    def __exit__(self, *_: object) -> None:
+        self.end()
+
+    def _raise(self, answer: Answer) -> None:
+        raise RAISED.get(answer, Refused)(answer, self._library.viq_answer_text(answer).decode())
+
+    def _must(self, answer: int) -> None:
+        if answer:
+            self._raise(Answer(answer))
+
+    def _call(self, name: str, *values: Any) -> Any:
+        with self.lock:
+            if self._bsr is None:
+                self._raise(Answer.NO_LISTENER)
+            return getattr(self._library, f"viq_bsr_{name}")(self._bsr, *values)
+
+    def end(self) -> None:
+        """Frees the listener and its memory. From then on each call but this one raises `Closed`."""
+        with self.lock:
+            self._bsr = None
+            self._finalizer()
+
+    # ---- whole steps
+
+    def frame(self, router: Router, iface: int, packet: Buffer, draw: int | None = None) -> Answer:
+        """A packet came on an interface, to a group, as by `Router.frame`. Where the router ignores it for its type the
+        listener hears it, and where the ranges moved the router is given them. Returns what the router made of the
+        packet, or else the listener."""
+        bits = draw_of(draw)
+        with self.lock, router.lock:
+            answer = router.frame(iface, packet, bits)
+            if answer != Answer.OTHER_TYPE:
+                return answer
+            answer, moved = self.hear(router, iface, packet)
+            if moved:
+                self._give(router, bits)
+            return answer
+
+    def advance(self, router: Router, moment: int, draw: int | None = None) -> Answer:
+        """Time passes up to a timestamp, as by `Router.advance`, and on the way to the end of each RP, where the router
+        is given other ranges."""
+        bits = draw_of(draw)
+        with self.lock, router.lock:
+            while (end := self.next_end()) is not None and end <= moment <= LAST_MOMENT:
+                self._step(router, end, bits)
+            return self._step(router, moment, bits)
+
+    def run_to(self, router: Router, moment: int) -> list[Sent]:
+        """Time passes up to the timestamp `moment`, timer by timer, as by `Router.run_to`."""
+        with self.lock, router.lock:
+            while True:
+                ends_next = self.next_moment(router)
+                now = moment if ends_next is None else min(moment, ends_next)
+                self._must(self.advance(router, now))
+                ends_next = self.next_moment(router)
+                if now == moment and (ends_next is None or ends_next > moment):
+                    return router.packets()
+
+    def next_moment(self, router: Router) -> int | None:
+        """The timestamp at which time is to pass: the next timer of the router expires, or an RP of the listener."""
+        ends = [end for end in (router.next_moment(), self.next_end()) if end is not None]
+        return min(ends, default=None)
+
+    def _step(self, router: Router, moment: int, bits: int) -> Answer:
+        answer = router.advance(moment, bits)
+        if answer == Answer.DONE and self.pass_to(moment):
+            self._give(router, bits)
+        return answer
+
+    # ---- the steps one by one
+
+    def hear(self, router: Router, iface: int, packet: Buffer) -> Heard:
+        """Hears a packet that came on an interface, and that the router ignored by OTHER_TYPE. The answer is DONE where
+        it counts, and is then sent on; OTHER_TYPE where it is no Bootstrap; a reason why it doesn't count; FULL where
+        there is no room for its RPs; or another refusal where it can't be read."""
+        data, moved = bytes_of(packet), c_bool()
+        with self.lock, router.lock:
+            place = number(iface, 32, "an interface")
+            answer = Answer(self._call("hear", router._router, place, data, len(data), byref(moved)))
+            if answer == Answer.DONE:
+                router._take()
+        if answer in RAISED:
+            self._raise(answer)
+        return Heard(answer, moved.value)
+
+    def give(self, router: Router, draw: int | None = None) -> Answer:
+        """An event of the router: its ranges are replaced by those that the listener has for it."""
+        return self._give(router, draw_of(draw))
+
+    def _give(self, router: Router, bits: int) -> Answer:
+        with self.lock, router.lock:
+            return self._told(router, bits, self._call("give", router._router, Draw(bits)))
+
+    def next_end(self) -> int | None:
+        """When the first of the RPs in force expires, in ms."""
+        return there(self._call("next"), NEVER)
+
+    def pass_to(self, moment: int) -> bool:
+        """Time passed to a timestamp: what has expired is forgotten. Returns whether the router is to be given other
+        ranges."""
+        moved = c_bool()
+        self._must(self._call("pass", number(moment, 64, "a moment"), byref(moved)))
+        return moved.value
+
+    def set_ranges(
+        self, router: Router, ranges: Iterable[tuple[str, str]], *, limit: int = 256, draw: int | None = None
+    ) -> Answer:
+        """Other configured ranges, and the limit: an event of the router, whose ranges are replaced by these and the
+        learned ones beside them. Where it isn't done the listener stays as it is."""
+        static, bits, most = list(ranges), draw_of(draw), number(limit, 32, "a limit")
+        with self.lock, router.lock:
+            answer = self._call("ranges", router._router, most, *ranges_of(static), Draw(bits))
+            if answer == Answer.NO_SETTING:
+                self._raise(Answer.NO_SETTING)
+            before, self.configured = self.configured, static
+            if answer != Answer.DONE:
+                self.configured = before
+            return self._told(router, bits, answer, static)
+
+    def _told(self, router: Router, bits: int, answered: int, refused: list[tuple[str, str]] | None = None) -> Answer:
+        """What the router answered to its ranges, which a recorder is told, if there is one."""
+        answer = Answer(answered)
+        if router._took is not None:
+            ranges = refused if refused is not None and answer != Answer.DONE else self.given()
+            router._took("ranges", bits, ranges_of(ranges), answer)
+        if answer == Answer.DONE:
+            router._take()
+        if answer in RAISED:
+            self._raise(answer)
+        return answer
+
+    # ---- what was learned
+
+    def elected(self) -> Elected | None:
+        """The elected BSR."""
+        told = CElected()
+        return Elected(dotted(told.bsr), told.priority, told.end) if self._call("elected", byref(told)) else None
+
+    def rps(self) -> list[LearnedRp]:
+        """The RPs in force, in the order in which they were learned."""
+        told, rows = CRp(), []
+        with self.lock:
+            for index in range(self._call("rps")):
+                self._call("rp", index, byref(told))
+                said = told.priority, told.hash_length, told.is_given, told.end
+                rows.append(LearnedRp(groups_of(told), dotted(told.rp), *said))
+        return rows
+
+    def parts(self) -> list[LearnedPart]:
+        """The RPs of messages of which fragments are missing."""
+        told, rows = CPart(), []
+        with self.lock:
+            for index in range(self._call("parts")):
+                self._call("part", index, byref(told))
+                said = told.priority, told.holdtime, dotted(told.bsr), told.tag, told.end
+                rows.append(LearnedPart(groups_of(told), dotted(told.rp), *said))
+        return rows
+
+    def given(self) -> list[tuple[str, str]]:
+        """The ranges that the router is given: the configured ones, and those of the RPs that it is given."""
+        with self.lock:
+            return self.configured + [(row.groups, row.rp) for row in self.rps() if row.is_given]

@@ -1,0 +1,424 @@
+//! RPs that are learned of Bootstraps (RFC 5059).
+use crate::raw::{Draw, Range as CRange};
+use crate::{done, ends, verdict, Error, Range, Reason, Router, Target, Verdict, ABI, DONE, MOST_BYTES};
+use std::ffi::c_void;
+use std::fmt;
+use std::net::Ipv4Addr;
+use std::ptr::{null_mut, NonNull};
+
+/// The latest timestamp of an event, in ms.
+const LAST_MOMENT: u64 = 1 << 62;
+
+/// The elected bootstrap router.
+#[derive(Clone, Copy, Debug, PartialEq, Eq)]
+#[non_exhaustive]
+pub struct Elected {
+    /// Its address.
+    pub bsr: Ipv4Addr,
+    /// The higher is preferred.
+    pub priority: u32,
+    /// When the Bootstrap Timer expires, in ms: 130 s after its last message.
+    pub end: u64,
+}
+
+/// An RP of a learned range, in force.
+#[derive(Clone, Copy, Debug, PartialEq, Eq)]
+#[non_exhaustive]
+pub struct LearnedRp {
+    /// The range and its RP.
+    pub range: Range,
+    /// The lower is preferred.
+    pub priority: u32,
+    /// The bits of the hash function's mask.
+    pub hash_length: u32,
+    /// The router is given it: its range isn't configured, and it is the one that is chosen of its range.
+    pub is_given: bool,
+    /// When its holdtime is over, in ms.
+    pub end: u64,
+}
+
+/// An RP of a range, of a message of which other fragments are missing. It isn't in force.
+#[derive(Clone, Copy, Debug, PartialEq, Eq)]
+#[non_exhaustive]
+pub struct LearnedPart {
+    /// The range and its RP.
+    pub range: Range,
+    /// The lower is preferred.
+    pub priority: u32,
+    /// In seconds; 0 takes the RP away.
+    pub holdtime: u32,
+    /// The message's.
+    pub bsr: Ipv4Addr,
+    /// The message's fragment tag.
+    pub tag: u32,
+    /// When it is forgotten, in ms: 130 s after it came.
+    pub end: u64,
+}
+
+/// What became of a packet that a listener heard.
+#[derive(Clone, Copy, Debug, PartialEq, Eq)]
+pub enum Heard {
+    /// It is no Bootstrap.
+    Other,
+    /// It doesn't count: `OwnBsr`, `NoNeighbour`, `Scoped`, `LateRefresh`, `NotFromRpf` or `NotPreferred`.
+    Ignored(Reason),
+    /// It counts, and is sent on.
+    Taken {
+        /// The router is to be given other ranges.
+        moved: bool,
+    },
+}
+
+/// A listener, which hears Bootstraps before a [`Router`] and says which ranges the router is to have: the configured ones,
+/// and of each learned range the RP that a hash of the range's prefix chooses.
+///
+/// With a listener a program calls [`Bsr::frame`] in the place of [`Router::frame`], [`Bsr::run_to`] in the place of
+/// [`Router::run_to`], and [`Bsr::set_ranges`] in the place of [`Router::set_ranges`]; the next timestamp at which time is
+/// to pass is [`Bsr::next_moment`]. The other calls are the steps of these. A reload gives the router the ranges that it
+/// has ([`Bsr::given`]), and then [`Bsr::set_ranges`] sets the new configured ones.
+// The pointer is of a listener that `viq_bsr_new` made, until it is dropped, as that of a `Router`.
+pub struct Bsr {
+    at: NonNull<c_void>,
+    /// The ranges that are configured.
+    configured: Vec<Range>,
+}
+
+// SAFETY: as of a `Router`.
+unsafe impl Send for Bsr {}
+
+impl fmt::Debug for Bsr {
+    fn fmt(&self, to: &mut fmt::Formatter<'_>) -> fmt::Result {
+        to.debug_struct("Bsr").field("elected", &self.elected()).field("rps", &self.rps()).finish_non_exhaustive()
+    }
+}
+
+/// The packets that are to be sent, one by one.
+fn send_all(router: &mut Router, send: &mut impl FnMut(Target, &[u8])) {
+    let mut room = [0; MOST_BYTES];
+    while let Some((target, bytes)) = router.take(&mut room) {
+        send(target, bytes);
+    }
+}
+
+/// The sooner of two timestamps.
+fn sooner(one: Option<u64>, other: Option<u64>) -> Option<u64> {
+    one.into_iter().chain(other).min()
+}
+
+impl Bsr {
+    /// Makes a listener, which knows no BSR, for a router that has these ranges. It keeps at most `limit` RPs, 1 to 256,
+    /// with those of messages of which fragments are missing. Until the timestamp `refresh_end` one message may come that
+    /// a neighbour sends to a router which has just started: 60,000 ms after the router started, or 0 for none.
+    pub fn new(limit: u32, ranges: &[Range], refresh_end: u64) -> Result<Bsr, Error> {
+        let mut made = null_mut();
+        let given: Vec<_> = ranges.iter().map(Range::given).collect();
+        // SAFETY: the list is passed as its pointer and its length, and what points to the listener is only written.
+        let answer = unsafe { viq_bsr_new(&mut made, ABI, limit, given.as_ptr(), given.len(), refresh_end) };
+        match NonNull::new(made) {
+            Some(at) if answer == DONE => Ok(Bsr { at, configured: ranges.to_vec() }),
+            _ => Err(Error::of(answer)),
+        }
+    }
+
+    // ---- whole steps
+
+    /// A packet came on an interface, to a group, as by `Router::frame`. Where the router ignores it for its type the
+    /// listener hears it, and where the ranges moved the router is given them. Each packet that leaves is passed to `send`
+    /// with its bytes. Returns what the router made of the packet, or else the listener.
+    pub fn frame(
+        &mut self,
+        router: &mut Router,
+        iface: u32,
+        packet: &[u8],
+        draw: u32,
+        mut send: impl FnMut(Target, &[u8]),
+    ) -> Result<Verdict, Error> {
+        let verdict = router.frame(iface, packet, draw)?;
+        send_all(router, &mut send);
+        if verdict != Verdict::Ignored(Reason::OtherType) {
+            return Ok(verdict);
+        }
+        match self.hear(router, iface, packet)? {
+            Heard::Other => Ok(verdict),
+            Heard::Ignored(reason) => Ok(Verdict::Ignored(reason)),
+            Heard::Taken { moved } => {
+                send_all(router, &mut send);
+                self.give_if(moved, router, draw, &mut send)?;
+                Ok(Verdict::Done)
+            }
+        }
+    }
+
+    /// Time passes up to a timestamp, as by `Router::advance`, and on the way to the end of each RP, where the router is
+    /// given other ranges. Each packet that leaves is passed to `send`.
+    pub fn advance(
+        &mut self,
+        router: &mut Router,
+        moment: u64,
+        draw: u32,
+        mut send: impl FnMut(Target, &[u8]),
+    ) -> Result<Verdict, Error> {
+        while let Some(end) = self.next_end().filter(|end| *end <= moment && moment <= LAST_MOMENT) {
+            self.step(router, end, draw, &mut send)?;
+        }
+        self.step(router, moment, draw, &mut send)
+    }
+
+    /// Time passes up to the timestamp `now`, timer by timer, as by `Router::run_to`.
+    pub fn run_to(
+        &mut self,
+        router: &mut Router,
+        now: u64,
+        mut draw: impl FnMut() -> u32,
+        mut send: impl FnMut(Target, &[u8]),
+    ) -> Result<(), Error> {
+        send_all(router, &mut send);
+        loop {
+            let moment = self.next_moment(router).map_or(now, |moment| moment.min(now));
+            self.advance(router, moment, draw(), &mut send)?;
+            if moment == now && self.next_moment(router).map_or(true, |moment| moment > now) {
+                return Ok(());
+            }
+        }
+    }
+
+    /// The timestamp at which time is to pass: the next timer of the router expires, or an RP of the listener.
+    pub fn next_moment(&self, router: &Router) -> Option<u64> {
+        sooner(router.next_moment(), self.next_end())
+    }
+
+    /// Time passes up to a timestamp at which nothing of the listener was due before.
+    fn step(
+        &mut self,
+        router: &mut Router,
+        moment: u64,
+        draw: u32,
+        send: &mut impl FnMut(Target, &[u8]),
+    ) -> Result<Verdict, Error> {
+        let verdict = router.advance(moment, draw)?;
+        send_all(router, send);
+        let moved = self.pass(moment)?;
+        self.give_if(moved, router, draw, send)?;
+        Ok(verdict)
+    }
+
+    fn give_if(
+        &self,
+        moved: bool,
+        router: &mut Router,
+        draw: u32,
+        send: &mut impl FnMut(Target, &[u8]),
+    ) -> Result<(), Error> {
+        if moved {
+            self.give(router, draw)?;
+            send_all(router, send);
+        }
+        Ok(())
+    }
+
+    // ---- the steps one by one
+
+    /// Hears a packet that came on an interface, and that the router ignored by `Reason::OtherType`. What is sent on is
+    /// then to be taken of the router. An `Err` changes nothing: `Refusal::Full` where there is no room for the RPs, other
+    /// refusals where the packet can't be read.
+    pub fn hear(&mut self, router: &mut Router, iface: u32, packet: &[u8]) -> Result<Heard, Error> {
+        let mut moved = false;
+        // SAFETY: the listener and the router are there and borrowed alone; the packet is passed as its pointer and its
+        // length.
+        let answer =
+            unsafe { viq_bsr_hear(self.at_mut(), router.at_mut(), iface, packet.as_ptr(), packet.len(), &mut moved) };
+        match verdict(answer)? {
+            Verdict::Done => Ok(Heard::Taken { moved }),
+            Verdict::Ignored(Reason::OtherType) => Ok(Heard::Other),
+            Verdict::Ignored(reason) => Ok(Heard::Ignored(reason)),
+        }
+    }
+
+    /// An event of the router: its ranges are replaced by those that the listener has for it.
+    pub fn give(&self, router: &mut Router, draw: u32) -> Result<Verdict, Error> {
+        // SAFETY: the listener is there, and the router is there and borrowed alone.
+        verdict(unsafe { viq_bsr_give(self.at.as_ptr(), router.at_mut(), Draw { bits: draw }) })
+    }
+
+    /// When the first of the RPs in force expires, in ms.
+    pub fn next_end(&self) -> Option<u64> {
+        // SAFETY: the listener is there.
+        ends(unsafe { viq_bsr_next(self.at.as_ptr()) })
+    }
+
+    /// Time passed to a timestamp: what has expired is forgotten. Returns whether the router is to be given other ranges.
+    pub fn pass(&mut self, moment: u64) -> Result<bool, Error> {
+        let mut moved = false;
+        // SAFETY: the listener is there and borrowed alone.
+        done(unsafe { viq_bsr_pass(self.at_mut(), moment, &mut moved) })?;
+        Ok(moved)
+    }
+
+    /// Other configured ranges, and another limit as in `new`: an event of the router, whose ranges are replaced by these
+    /// and the learned ones beside them. Where it isn't done the listener stays as it is.
+    pub fn set_ranges(
+        &mut self,
+        router: &mut Router,
+        limit: u32,
+        ranges: &[Range],
+        draw: u32,
+    ) -> Result<Verdict, Error> {
+        let given: Vec<_> = ranges.iter().map(Range::given).collect();
+        // SAFETY: the listener and the router are there and borrowed alone; the list is passed as its pointer and its
+        // length.
+        let answer = unsafe {
+            viq_bsr_ranges(self.at_mut(), router.at_mut(), limit, given.as_ptr(), given.len(), Draw { bits: draw })
+        };
+        let verdict = verdict(answer)?;
+        if verdict == Verdict::Done {
+            self.configured = ranges.to_vec();
+        }
+        Ok(verdict)
+    }
+
+    // ---- what was learned
+
+    /// The elected BSR.
+    pub fn elected(&self) -> Option<Elected> {
+        let mut told = raw::Elected::default();
+        // SAFETY: the listener is there.
+        unsafe { viq_bsr_elected(self.at.as_ptr(), &mut told) }.then(|| Elected {
+            bsr: told.bsr.into(),
+            priority: told.priority,
+            end: told.end,
+        })
+    }
+
+    /// The RPs in force, in the order in which they were learned.
+    pub fn rps(&self) -> Vec<LearnedRp> {
+        // SAFETY: the listener is there.
+        let count = unsafe { viq_bsr_rps(self.at.as_ptr()) };
+        (0..count).filter_map(|index| self.rp(index)).collect()
+    }
+
+    fn rp(&self, index: usize) -> Option<LearnedRp> {
+        let mut row = raw::Rp::default();
+        // SAFETY: the listener is there.
+        unsafe { viq_bsr_rp(self.at.as_ptr(), index, &mut row) }.then(|| LearnedRp {
+            range: Range::new(row.prefix.into(), row.length, row.rp.into()),
+            priority: row.priority,
+            hash_length: row.hash_length,
+            is_given: row.is_given,
+            end: row.end,
+        })
+    }
+
+    /// The RPs of messages of which fragments are missing.
+    pub fn parts(&self) -> Vec<LearnedPart> {
+        // SAFETY: the listener is there.
+        let count = unsafe { viq_bsr_parts(self.at.as_ptr()) };
+        (0..count).filter_map(|index| self.part(index)).collect()
+    }
+
+    fn part(&self, index: usize) -> Option<LearnedPart> {
+        let mut row = raw::Part::default();
+        // SAFETY: the listener is there.
+        unsafe { viq_bsr_part(self.at.as_ptr(), index, &mut row) }.then(|| LearnedPart {
+            range: Range::new(row.prefix.into(), row.length, row.rp.into()),
+            priority: row.priority,
+            holdtime: row.holdtime,
+            bsr: row.bsr.into(),
+            tag: row.tag,
+            end: row.end,
+        })
+    }
+
+    /// The configured ranges.
+    pub fn configured(&self) -> &[Range] {
+        &self.configured
+    }
+
+    /// The ranges that the router is given: the configured ones, and those of the RPs that it is given.
+    pub fn given(&self) -> Vec<Range> {
+        let learned = self.rps().into_iter().filter(|rp| rp.is_given).map(|rp| rp.range);
+        self.configured.iter().copied().chain(learned).collect()
+    }
+
+    fn at_mut(&mut self) -> *mut c_void {
+        self.at.as_ptr()
+    }
+}
+
+impl Drop for Bsr {
+    fn drop(&mut self) {
+        // SAFETY: the listener is there, and nobody has it after this.
+        unsafe { viq_bsr_end(self.at.as_ptr()) }
+    }
+}
+
+/// The values of C.
+mod raw {
+    #[repr(C)]
+    #[derive(Default)]
+    pub struct Elected {
+        pub bsr: u32,
+        pub priority: u32,
+        pub end: u64,
+    }
+
+    #[repr(C)]
+    #[derive(Default)]
+    pub struct Rp {
+        pub prefix: u32,
+        pub length: u32,
+        pub rp: u32,
+        pub priority: u32,
+        pub hash_length: u32,
+        pub is_given: bool,
+        pub end: u64,
+    }
+
+    #[repr(C)]
+    #[derive(Default)]
+    pub struct Part {
+        pub prefix: u32,
+        pub length: u32,
+        pub rp: u32,
+        pub priority: u32,
+        pub holdtime: u32,
+        pub bsr: u32,
+        pub tag: u32,
+        pub end: u64,
+    }
+}
+
+extern "C" {
+    fn viq_bsr_new(
+        bsr: *mut *mut c_void,
+        abi: u32,
+        limit: u32,
+        ranges: *const CRange,
+        count: usize,
+        refresh_end: u64,
+    ) -> u32;
+    fn viq_bsr_end(bsr: *mut c_void);
+    fn viq_bsr_hear(
+        bsr: *mut c_void,
+        router: *mut c_void,
+        iface: u32,
+        packet: *const u8,
+        length: usize,
+        moved: *mut bool,
+    ) -> u32;
+    fn viq_bsr_give(bsr: *const c_void, router: *mut c_void, draw: Draw) -> u32;
+    fn viq_bsr_next(bsr: *const c_void) -> u64;
+    fn viq_bsr_pass(bsr: *mut c_void, moment: u64, moved: *mut bool) -> u32;
+    fn viq_bsr_ranges(
+        bsr: *mut c_void,
+        router: *mut c_void,
+        limit: u32,
+        ranges: *const CRange,
+        count: usize,
+        draw: Draw,
+    ) -> u32;
+    fn viq_bsr_elected(bsr: *const c_void, elected: *mut raw::Elected) -> bool;
+    fn viq_bsr_rps(bsr: *const c_void) -> usize;
+    fn viq_bsr_rp(bsr: *const c_void, index: usize, row: *mut raw::Rp) -> bool;
+    fn viq_bsr_parts(bsr: *const c_void) -> usize;
+    fn viq_bsr_part(bsr: *const c_void, index: usize, row: *mut raw::Part) -> bool;
+}

@@ -1,0 +1,146 @@
+//! Bootstraps (RFC 5059): RPs that are learned of them, beside those of the file.
+use super::{Daemon, Event, Fatal};
+use crate::core::ranges_of;
+use crate::left::LeftRange;
+use crate::packet::{bsr_of, Packet};
+use crate::settings::RpSettings;
+use log::{debug, info};
+use std::net::Ipv4Addr;
+use viqeshor::{Error, Heard, LearnedRp};
+
+/// After a start a neighbour may say at once what was said before, in ms (RFC 5059, 3.5.1).
+const REFRESH: u64 = 60_000;
+/// The fragments of a message come together, in ms.
+const FRAGMENTS: u64 = 1_000;
+/// A BSR of which nothing is heard for so long is gone, in ms (RFC 5059, 5, BS_Timeout).
+const BS_TIMEOUT: u64 = 130_000;
+
+/// An RP of a range that the router has.
+pub struct Rp {
+    pub range: RpSettings,
+    /// Of one that is learned; `None` where the file has it.
+    pub learned: Option<LearnedRp>,
+}
+
+impl Daemon {
+    /// Bootstraps are heard from here on where the settings say so. A router that hears no more of them has the RPs of the
+    /// file alone.
+    pub(super) fn listen(&mut self) -> Result<(), Fatal> {
+        let now = self.now();
+        match (self.settings.bsr.as_ref().map(|bsr| bsr.limit), self.core.listens()) {
+            (Some(limit), false) => self.core.listen(limit, &ranges_of(&self.settings.rps), now + REFRESH),
+            (None, true) => {
+                self.core.listen_no_more();
+                self.due.unheard = None;
+                self.set_ranges()
+            }
+            _ => Ok(()),
+        }
+    }
+
+    /// The ranges of the file as they were told to the router, for one that goes on in its place; `None` where no
+    /// Bootstraps are heard.
+    pub(super) fn left_ranges(&self) -> Option<Vec<LeftRange>> {
+        self.core.listens().then(|| LeftRange::of(&ranges_of(&self.settings.rps)))
+    }
+
+    /// The router before this one heard Bootstraps: what it learned of them stays with the library's router, until a BSR has
+    /// had the time to say it again. It answers whether that is so: the file has to have the same ranges.
+    pub(super) fn keeps_learned(&mut self, left: Option<&[LeftRange]>) -> bool {
+        let is_same = left.map_or(false, |left| left == LeftRange::of(&ranges_of(&self.settings.rps)));
+        let keeps = is_same && self.core.listens();
+        self.due.unheard = keeps.then(|| self.now() + BS_TIMEOUT);
+        keeps
+    }
+
+    /// No BSR said anew what the router before this one had learned.
+    pub(super) fn forget_unheard(&mut self) -> Result<(), Fatal> {
+        self.give()
+    }
+
+    /// A packet that the router ignored as PIM of another type may be a Bootstrap.
+    pub(super) fn hear_bootstrap(&mut self, number: u32, bytes: &[u8]) -> Result<(), Fatal> {
+        if !self.core.listens() || !self.believes(number, bytes) {
+            return Ok(());
+        }
+        match self.core.hear(number, bytes) {
+            Ok(Heard::Taken { moved }) => {
+                self.counters.bootstraps_taken += 1;
+                self.leave();
+                match self.due.unheard {
+                    // Other fragments may say the rest of what the router before this one had learned.
+                    Some(due) => self.due.unheard = Some(due.min(self.now() + FRAGMENTS)),
+                    None if moved => self.give_anew()?,
+                    None => {}
+                }
+            }
+            Ok(Heard::Other) => {}
+            Ok(Heard::Ignored(reason)) => {
+                self.counters.bootstraps_left_out += 1;
+                debug!("the Bootstrap doesn't count: {}", viqeshor::answer_text(reason as u32));
+            }
+            Err(Error::Refused(refusal)) => {
+                self.counters.bootstraps_left_out += 1;
+                debug!("the Bootstrap is refused: {}", Error::Refused(refusal));
+            }
+            // It is as if the message hadn't come.
+            Err(Error::Memory) => self.core.refused_memory += 1,
+            Err(error) => return Err(Fatal::Router(error)),
+        }
+        Ok(())
+    }
+
+    /// Whether a Bootstrap on the interface, of its BSR, is believed by the settings.
+    fn believes(&self, number: u32, bytes: &[u8]) -> bool {
+        let is_border = self.ports.get(number as usize).map_or(true, |port| port.settings.is_bsr_border);
+        let from = self.settings.bsr.as_ref().and_then(|bsr| bsr.from.as_ref());
+        let bsr = Packet::read(bytes).and_then(bsr_of);
+        let is_named = |from: &Vec<Ipv4Addr>| bsr.map_or(false, |bsr| from.contains(&bsr));
+        !is_border && from.map_or(true, is_named)
+    }
+
+    /// The RPs moved: the library's router is given them, by the number of the event before.
+    fn give_anew(&mut self) -> Result<(), Fatal> {
+        self.counters.bootstrap_moves += 1;
+        self.give()?;
+        let ranges = self.core.learned().iter().filter(|rp| rp.is_given).count();
+        info!("Bootstraps say the RPs of {ranges} ranges");
+        Ok(())
+    }
+
+    fn give(&mut self) -> Result<(), Fatal> {
+        self.due.unheard = None;
+        let ranges = self.core.given();
+        self.take_also(Event::Learned(&ranges))?;
+        self.all_unknown_may_differ();
+        Ok(())
+    }
+
+    /// Time passes up to a moment, and on the way to the end of each RP that is learned.
+    pub(super) fn pass_to(&mut self, moment: u64) -> Result<(), Fatal> {
+        let mut is_first = true;
+        while let Some(end) = self.core.next_end().filter(|end| *end <= moment) {
+            self.pass_part(end, is_first)?;
+            is_first = false;
+        }
+        self.pass_part(moment, is_first)
+    }
+
+    fn pass_part(&mut self, moment: u64, is_first: bool) -> Result<(), Fatal> {
+        match is_first {
+            true => self.take(Event::Advance(moment))?,
+            false => self.take_also(Event::Advance(moment))?,
+        };
+        if self.core.pass(moment)? {
+            self.give_anew()?;
+        }
+        Ok(())
+    }
+
+    /// The RPs that the router has: those of the file, and those that are learned and chosen beside them.
+    pub fn rps(&self) -> Vec<Rp> {
+        let of_file = self.settings.rps.iter().map(|range| Rp { range: range.clone(), learned: None });
+        let learned = self.core.learned().into_iter().filter(|rp| rp.is_given);
+        of_file.chain(learned.map(|rp| Rp { range: RpSettings::of(&rp.range), learned: Some(rp) })).collect()
+    }
+}

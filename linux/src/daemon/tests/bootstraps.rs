@@ -1,0 +1,172 @@
+//! RPs that are learned of Bootstraps (RFC 5059): which are believed, what the library's router has of them, and until when.
+use super::restarted::{left_by, resumed, same_machine};
+use super::*;
+use crate::schemas::Schema;
+use crate::show;
+use serde_json::{json, Value};
+
+const BSR: [u8; 4] = [10, 9, 0, 9];
+const LEARNED: [u8; 4] = [10, 9, 0, 7];
+const OTHER: [u8; 4] = [10, 9, 0, 8];
+const GROUP: [u8; 4] = [239, 9, 9, 9];
+
+pub fn listening() -> String {
+    format!("{TWO}[bsr]\nlisten = true\n")
+}
+
+/// The first interface is a border.
+fn bordered() -> String {
+    listening().replacen("name = \"eth0\"\n", "name = \"eth0\"\nbsr_border = true\n", 1)
+}
+
+/// A Bootstrap of the neighbour, which says one RP of each range for 150 s.
+pub fn bootstrap(ranges: &[([u8; 4], u8, [u8; 4])]) -> (Source, kernel::Event) {
+    let mut content = vec![0x24, 0, 0, 0, 0, 7, 30, 10, 1, 0];
+    content.extend(BSR);
+    for (prefix, length, rp) in ranges {
+        content.extend([1, 0, 0, *length]);
+        content.extend(prefix);
+        content.extend([1, 1, 0, 0, 1, 0]);
+        content.extend(rp);
+        content.extend([0, 150, 0, 0]);
+    }
+    frame(ETH0, packet(PIM, [10, 1, 0, 2].into(), [224, 0, 0, 13].into(), &summed(&content)))
+}
+
+fn wide(rp: [u8; 4]) -> (Source, kernel::Event) {
+    bootstrap(&[([239, 0, 0, 0], 8, rp)])
+}
+
+fn rp(daemon: &Daemon, group: [u8; 4]) -> Option<Ipv4Addr> {
+    show::rp_of(daemon, Ipv4Addr::from(group).into())
+}
+
+/// On which interfaces Bootstraps left since it was asked last.
+fn sent_on(fake: &Fake) -> Vec<u32> {
+    let sent = fake.sent.take();
+    let is_bootstrap = |bytes: &[u8]| Packet::read(bytes).map_or(false, |it| is_pim(it, BOOTSTRAP));
+    sent.iter().filter(|(_, bytes)| is_bootstrap(bytes)).map(|(index, _)| *index).collect()
+}
+
+fn shown(daemon: &mut Daemon, topic: &str) -> Value {
+    let mut told = Vec::new();
+    show::answer(daemon, &format!("show {topic} json"), &mut told).expect("it is told");
+    let told: Value = serde_json::from_slice(&told).expect("JSON");
+    assert!(Schema::read(&format!("show-{topic}")).fits(&told), "{told}");
+    told[topic].clone()
+}
+
+#[test]
+fn an_rp_is_learned_for_its_time() {
+    let (mut daemon, fake) = begun(&listening(), &both());
+    sent_on(&fake);
+    happens(&mut daemon, &fake, wide(LEARNED));
+    assert_eq!((rp(&daemon, GROUP), sent_on(&fake)), (Some(LEARNED.into()), vec![ETH0]));
+    // What the file has wins.
+    happens(&mut daemon, &fake, bootstrap(&[([239, 1, 0, 0], 16, LEARNED)]));
+    assert_eq!(rp(&daemon, [239, 1, 1, 1]), Some([10, 1, 0, 1].into()));
+    assert_eq!((daemon.counters.bootstraps_taken, daemon.counters.bootstrap_moves), (2, 1));
+    passes(&mut daemon, &fake, 149_900);
+    assert_eq!(rp(&daemon, GROUP), Some(LEARNED.into()));
+    passes(&mut daemon, &fake, 100);
+    assert_eq!((rp(&daemon, GROUP), rp(&daemon, [239, 1, 1, 1])), (None, Some([10, 1, 0, 1].into())));
+}
+
+#[test]
+fn a_join_goes_to_the_rp_that_is_learned() {
+    let (mut daemon, fake) = begun(&listening(), &both());
+    happens(&mut daemon, &fake, report(ETH1, [10, 5, 0, 77], GROUP.into()));
+    fake.sent.take();
+    happens(&mut daemon, &fake, wide(LEARNED));
+    let joins = |fake: &Fake| {
+        fake.sent.take().iter().filter(|(_, bytes)| Packet::read(bytes).map_or(false, |it| is_pim(it, 3))).count()
+    };
+    assert_eq!(joins(&fake), 1);
+    assert_eq!(daemon.core.rows(Table::Upstream).expect("it tells").len(), 1);
+}
+
+#[test]
+fn nothing_is_learned_where_the_settings_say_so() {
+    let (mut daemon, fake) = begun(TWO, &both());
+    happens(&mut daemon, &fake, wide(LEARNED));
+    assert_eq!((rp(&daemon, GROUP), daemon.core.next_end()), (None, None));
+    let (mut daemon, fake) = begun(&bordered(), &both());
+    sent_on(&fake);
+    happens(&mut daemon, &fake, wide(LEARNED));
+    assert_eq!((rp(&daemon, GROUP), sent_on(&fake)), (None, vec![]));
+    for (from, learned) in [("10.9.0.8", None), ("10.9.0.9", Some(LEARNED.into()))] {
+        let (mut daemon, fake) = begun(&format!("{}from = [\"{from}\"]\n", listening()), &both());
+        happens(&mut daemon, &fake, wide(LEARNED));
+        assert_eq!(rp(&daemon, GROUP), learned);
+    }
+}
+
+#[test]
+fn other_settings_leave_what_is_learned() {
+    let (mut daemon, fake) = begun(&listening(), &both());
+    happens(&mut daemon, &fake, wide(LEARNED));
+    let takes = |daemon: &mut Daemon, text: &str| {
+        daemon.take_settings(settings::read(text).expect("they are in order")).expect("it goes on");
+    };
+    // Another configuration, other ranges, and one that is learned too.
+    takes(&mut daemon, &format!("limit = 70000\n{}", listening()));
+    assert_eq!((daemon.counters.reloaded, rp(&daemon, GROUP)), (1, Some(LEARNED.into())));
+    takes(&mut daemon, &listening().replace("239.2.0.0/16", "239.3.0.0/16"));
+    assert_eq!(
+        (rp(&daemon, [239, 2, 1, 1]), rp(&daemon, [239, 3, 1, 1])),
+        (Some(LEARNED.into()), Some([10, 9, 0, 1].into()))
+    );
+    takes(&mut daemon, &listening().replace("239.2.0.0/16", "239.0.0.0/8"));
+    assert_eq!(rp(&daemon, GROUP), Some([10, 9, 0, 1].into()));
+    takes(&mut daemon, &listening());
+    assert_eq!(rp(&daemon, GROUP), Some(LEARNED.into()));
+    takes(&mut daemon, TWO);
+    assert_eq!((rp(&daemon, GROUP), rp(&daemon, [239, 2, 1, 1])), (None, Some([10, 9, 0, 1].into())));
+}
+
+#[test]
+fn a_router_in_the_place_of_another_one_keeps_what_that_learned() {
+    let (mut daemon, fake) = begun(&listening(), &both());
+    happens(&mut daemon, &fake, wide(LEARNED));
+    let begins = || {
+        let other = same_machine(&fake);
+        let next = resumed(&listening(), &other, left_by(&daemon), Way::Whole);
+        assert_eq!(rp(&next, GROUP), Some(LEARNED.into()));
+        (next, other)
+    };
+    // Nothing is said again.
+    let (mut next, other) = begins();
+    passes(&mut next, &other, 129_000);
+    assert_eq!(rp(&next, GROUP), Some(LEARNED.into()));
+    passes(&mut next, &other, 1_500);
+    assert_eq!(rp(&next, GROUP), None);
+    // Another RP is said.
+    let (mut next, other) = begins();
+    happens(&mut next, &other, wide(OTHER));
+    passes(&mut next, &other, 1_500);
+    assert_eq!(rp(&next, GROUP), Some(OTHER.into()));
+    // The file has other ranges.
+    let text = listening().replace("239.2.0.0/16", "239.3.0.0/16");
+    assert_eq!(rp(&resumed(&text, &same_machine(&fake), left_by(&daemon), Way::Whole), GROUP), None);
+}
+
+#[test]
+fn what_is_learned_is_shown() {
+    let (mut daemon, fake) = begun(&listening(), &both());
+    assert_eq!(shown(&mut daemon, "bsr"), json!([]));
+    happens(&mut daemon, &fake, wide(LEARNED));
+    let rows = shown(&mut daemon, "bsr");
+    assert_eq!(
+        (&rows[0]["what"], &rows[0]["address"], &rows[0]["priority"]),
+        (&json!("BSR"), &json!("10.9.0.9"), &json!(10))
+    );
+    assert_eq!((&rows[1]["groups"], &rows[1]["address"]), (&json!("239.0.0.0/8"), &json!("10.9.0.7")));
+    assert_eq!((&rows[1]["in_use"], &rows[1]["expires_seconds"]), (&json!(true), &json!(150.0)));
+    let rows = shown(&mut daemon, "rp");
+    assert_eq!((&rows[0]["from"], &rows[0]["expires_seconds"]), (&json!("file"), &Value::Null));
+    let learned = rows.as_array().and_then(|rows| rows.last()).expect("a row");
+    assert_eq!(
+        (&learned["rp"], &learned["from"], &learned["next_hop"]),
+        (&json!("10.9.0.7"), &json!("bsr"), &json!("10.1.0.2"))
+    );
+}
