@@ -1183,6 +1183,7 @@ mod tests {
             bfd: Some(Times { interval: 100, multiplier: 3 }),
             speech: Speech { older_hosts: OlderHosts::Nobody, queries: QueryVersion::Three },
             policy: it.interfaces[0].policy.clone(),
+            is_bsr_border: false,
             line: 22,
         };
         assert_eq!(it.interfaces, [a]);
