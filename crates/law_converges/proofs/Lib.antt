@@ -44,6 +44,7 @@ pub mod CarriedPrunes
 pub mod Settles
 pub mod CarriedNetwork
 pub mod CarriedWays
+pub mod AloneByAssert
 pub mod CarriedNetworkRun
 pub mod Tested
 pub mod HelloTests
@@ -56,4 +57,5 @@ pub mod WishTests
 pub mod WayTests
 pub mod CarriedWaysRun
 pub mod ComesOnceRun
+pub mod AloneByAssertRun
 pub mod JoinedWaysRun

@@ -29,6 +29,8 @@ pub mod CarriedPrunes
 pub mod Settles
 pub mod CarriedNetwork
 pub mod CarriedWays
+pub mod AloneByAssert
 pub mod CarriedNetworkRun
 pub mod CarriedWaysRun
 pub mod ComesOnceRun
+pub mod AloneByAssertRun

@@ -1,4 +1,5 @@
 //! Networks that meet the premises of the laws, computed by the kernel.
+ghost use Rattle.law_converges.specs.AloneByAssertRun.{WinnerAloneOnPlan};
 ghost use Rattle.law_converges.specs.CarriedNetworkRun.{OverrideComesInOrder, PlanIsQuiet, PlanSettles, PruneHasNoEffect};
 ghost use Rattle.law_converges.specs.CarriedWaysRun.{PlanBringsNothingElse, PlanIsOpen, PlanServesOnce};
 ghost use Rattle.law_converges.specs.ComesOnceRun.{ChainForwards, ChainServesOnce};
@@ -163,4 +164,9 @@ pub fn chain_forwards()
 /// So a packet that a Register brings to the RP is on the host's link, two routers further, in exactly one frame.
 pub fn chain_serves_once()
     ensures { ChainServesOnce }
+{}
+
+/// The assert's loser hears the packet on the other LAN, and the winner alone sends it on the host's.
+pub fn winner_alone_on_plan()
+    ensures { WinnerAloneOnPlan }
 {}

@@ -1,5 +1,6 @@
 //! What comes down a way.
 
+ghost use Rattle.law_converges.specs.AloneByAssert.{WinnerIsAlone};
 ghost use Rattle.law_converges.specs.CarriedWays.{CarriedNetworkBringsNothingElse, CarriedNetworkServesOnce};
 ghost use Rattle.law_converges.specs.ComesOnce.{EachPacketComesOnce, FrameComesOfOne, NothingElseComes};
 
@@ -25,6 +26,14 @@ pub fn frame_comes_of_one()
 /// above. Of the routers that lost an assert on a link `NetworkSettles` says that they send none there of what it is about.
 pub fn nothing_else_comes()
     ensures { NothingElseComes }
+{}
+
+/// The winner of an assert is the only router of the link that sends a source's packets there by a move, as `NothingElseComes`
+/// asks, where the losers send none of what the assert is about, as `NetworkSettles` says from the bound on; where whoever is on
+/// the link is the winner or one of these; and where each packet of the source that the move brings to a loser comes on a link,
+/// and the assert is about it: of a source's assert it always is, of a group's where it doesn't come on the source's own tree.
+pub fn winner_is_alone()
+    ensures { WinnerIsAlone }
 {}
 
 /// So it is in a network that settles, as `CarriedNetworkSettles` says, with its premises: down each of its ways of a group each
