@@ -103,10 +103,10 @@ class Tables(unittest.TestCase):
         self.assertEqual(self.holders("refusal_number Refusal.BadOption = 80"), {"crates/pim_ip/specs/Refusal.antt"})
 
     def test_so_is_an_answer_of_the_library_alone(self):
-        text = '[[answer]]\nnumber = 56\nname = "BadCall"\nabout = "An odd call."\nsays = "an odd call"\n\n'
+        text = '[[answer]]\nnumber = 57\nname = "BadCall"\nabout = "An odd call."\nsays = "an odd call"\n\n'
         self.changed("tables/answers.toml", "[[answer]]\nnumber = 60\n", f"{text}[[answer]]\nnumber = 60\n")
         self.assertEqual(self.ran("--write")[0], 0)
-        self.assertEqual(self.holders("/// An odd call.\npub const BAD_CALL: u32 = 56;"), {
+        self.assertEqual(self.holders("/// An odd call.\npub const BAD_CALL: u32 = 57;"), {
             "crates/pim_c/src/returned.rt"})
         self.assertEqual(self.holders('VIQ_BAD_CALL: return "an odd call";'), {"bindings/c/texts.c"})
 
@@ -124,10 +124,10 @@ class Tables(unittest.TestCase):
 
     def test_so_is_a_reason_to_ignore(self):
         path = self.top / "tables" / "answers.toml"
-        more = ANSWER.format(110, "Ignored", "a", "b", "c", "d", "e")
+        more = ANSWER.format(120, "Ignored", "a", "b", "c", "d", "e")
         path.write_text(path.read_text(encoding="utf-8") + more, encoding="utf-8")
         self.assertEqual(self.ran("--write")[0], 0)
-        self.assertEqual(self.holders("Ignored.BadOption = 110"), {
+        self.assertEqual(self.holders("Ignored.BadOption = 120"), {
             "crates/pim_c/specs/Returned.antt", "crates/pim_runs/specs/Transcript.antt"})
         self.assertLessEqual({"bindings/c/texts.c"}, self.holders('return "ignored: c";'))
 
