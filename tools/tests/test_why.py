@@ -588,7 +588,9 @@ class Words(unittest.TestCase):
     def test_every_refusal_and_reason_of_a_move_has_its_meaning(self):
         scenarios = (stored.TOOLS.parent / "docs" / "SCENARIOS.md").read_text()
         refusals = scenarios.partition("## Refusals")[2].partition("## Reasons")[0]
+        # Those of a packet, of a timestamp and of an interface; of reloads those of a map of places and of sets.
         numbers = {number for number in re.findall(r"^\| (\d+) \|", refusals, re.M) if int(number) < 25}
+        numbers |= {"73", "74"}
         reasons = set(
             re.findall(r"^\| `([A-Z]\w+)` \| ", scenarios.partition("## Reasons to ignore")[2].partition("##")[0], re.M)
         )
