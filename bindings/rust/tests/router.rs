@@ -609,7 +609,7 @@ fn rps_share_an_address() {
     assert_eq!(router.set_rp_sets(&[RpSet { own: other, ..set.clone() }]), refused);
     assert_eq!(router.set_rp_sets(&[RpSet { others: vec![other; 17], ..set.clone() }]), refused);
     assert_eq!(router.set_rp_sets(&vec![set.clone(); 136]), refused);
-    assert_eq!(router.set_rp_sets(&[set.clone()]), Ok(()));
+    assert_eq!(router.set_rp_sets(std::slice::from_ref(&set)), Ok(()));
     assert_eq!(router.next_moment(), Some(60_000));
 
     // One goes on to the other, and then the router answers by a Register-Stop.
