@@ -18,6 +18,9 @@
     sender.py INTERFACE ADDRESS registers RP GROUP COUNT  a Register of each of COUNT sources
     sender.py INTERFACE ADDRESS carried RP GROUP TIMES  a Register with a query inside, and one with a report for 180
                                                         groups, both of 1.0.0.1, so many times
+    sender.py INTERFACE ADDRESS bootstraps SECONDS HOLDTIME COUNT RP ..  each second a Hello, and a Bootstrap of this
+                                                        address: COUNT ranges of 16 bits, from 239.41.0.0 on, with
+                                                        these RPs each
     sender.py INTERFACE ADDRESS heard SECONDS           it prints a line, and then how many packets of 1.0.0.1 came
 """
 import socket
@@ -89,6 +92,14 @@ def carried(group: bytes) -> list[bytes]:
     query = summed(bytes([0x11, 10, 0, 0, 0, 0, 0, 0, 2, 125, 0, 0]))
     messages = query, report([numbered("239.2.16.0", number) for number in range(180)])
     return [register_of(ip(LOWEST, group, IGMP, message, ttl=9)) for message in messages]
+
+
+def bootstrap(bsr: bytes, tag: int, holdtime: int, count: int, rps: list[bytes]) -> bytes:
+    """A Bootstrap (RFC 5059, 4.1) with a hash mask of 30 bits and BSR priority 64."""
+    candidates = b"".join(bytes([1, 0]) + rp + struct.pack("!HBB", holdtime, 0, 0) for rp in rps)
+    ranges = b"".join(bytes([1, 0, 0, 16, 239, 41 + number, 0, 0, len(rps), len(rps), 0, 0]) + candidates
+                      for number in range(count))
+    return summed(bytes([0x24, 0, 0, 0]) + struct.pack("!HBB", tag, 30, 64) + bytes([1, 0]) + bsr + ranges)
 
 
 def heard(interface: str, seconds: float) -> int:
@@ -181,6 +192,13 @@ def main() -> None:
             link.send(packets[number % count])
             if number % 64 == 63:
                 time.sleep(0.004)
+    elif what == "bootstraps":
+        seconds, holdtime, count = map(int, rest[:3])
+        for number in range(seconds):
+            link.send(ip(own, ALL_PIM_ROUTERS, PIM, hello(9, priority=0)))
+            message = bootstrap(own, number, holdtime, count, [socket.inet_aton(rp) for rp in rest[3:]])
+            link.send(ip(own, ALL_PIM_ROUTERS, PIM, message))
+            time.sleep(1)
     elif what == "heard":
         print(heard(interface, float(rest[0])))
     elif what == "carried":

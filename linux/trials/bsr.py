@@ -1,0 +1,123 @@
+"""A BSR that is a program, the router, and FRR's pimd behind it:
+
+    bsr -- 10.81.0.0/24 -- heard -- 10.82.0.0/24 -- behind
+
+Both are to have the RPs that the Bootstraps say: FRR hears them of the router alone.
+"""
+from __future__ import annotations
+
+import json
+import os
+import shutil
+from typing import TYPE_CHECKING
+
+from trials.network import AS_SERVICE, NAMES, NOBODY, PIMD, SENDER, Failed, inside, ip, run, until
+
+if TYPE_CHECKING:
+    import subprocess
+    from pathlib import Path
+
+    from trials.network import Network
+
+BSR = "10.81.0.1"
+LINKS = [("bsr", f"{BSR}/24", "heard", "10.81.0.2/24"), ("heard", "10.82.0.1/24", "behind", "10.82.0.2/24")]
+ROUTES = {"bsr": ["10.82.0.0/24 via 10.81.0.2"], "heard": [], "behind": ["10.81.0.0/24 via 10.82.0.1"]}
+RANGES = 12
+GROUPS = [f"239.{41 + number}.0.0/16" for number in range(RANGES)]
+CANDIDATES = ["10.81.0.1", "10.81.0.3", "10.81.0.4"]
+# It takes the place of all of them.
+OTHER = "10.81.0.9"
+# In seconds: for how long a message holds, and how often FRR's neighbours are heard.
+HOLDTIME, HELLO = 20, 5
+
+
+class Chain:
+    """The router, FRR behind it, and the BSR's messages."""
+
+    def __init__(self, net: Network) -> None:
+        self.net, self.before = net, len(net.running)
+        self.control = net.room / "heard" / "control"
+
+    def lay_out(self) -> None:
+        for place in ROUTES:
+            run("ip", "netns", "add", NAMES[place])
+            ip(place, "link", "set", "lo", "up")
+        for link in LINKS:
+            self.net.connect(*link)
+        for place, routes in ROUTES.items():
+            for route in routes:
+                ip(place, "route", "add", *route.split())
+        for place in ("heard", "behind"):
+            run(*inside(place, "sysctl", "-qw", "net.ipv4.ip_forward=1"))
+
+    def start(self) -> None:
+        PIMD["behind"] = f"interface to-heard\n ip pim\n ip pim hello {HELLO}\n"
+        self.net.start_frr("behind")
+        own = self.net.room / "heard"
+        own.mkdir(exist_ok=True)
+        os.chown(own, NOBODY, NOBODY)
+        program = self.net.room / "viqeshord"
+        if not program.exists():
+            shutil.copy(self.net.built / "viqeshord", program)
+        ports = "".join(f'[[interface]]\nname = "to-{port}"\n\n' for port in ("bsr", "behind"))
+        file = self.net.room / "heard.toml"
+        file.write_text(f'log = "debug"\nsocket = "{self.control}"\n\n{ports}[bsr]\nlisten = true\n')
+        with open(self.net.room / "heard.log", "a") as log:
+            self.net.start("heard", *AS_SERVICE, program, "run", file, stderr=log)
+
+    def say(self, seconds: int, *rps: str) -> subprocess.Popen[str]:
+        """The BSR says for so many seconds that these are the RPs of each range."""
+        words = ["python3", SENDER, "to-heard", BSR, "bootstraps", seconds, HOLDTIME, RANGES, *rps]
+        return self.net.start("bsr", *words)
+
+    def heard(self) -> dict[str, str]:
+        """The RPs of the router, by their ranges."""
+        rows = self.net.show("rp", control=self.control)
+        return {row["groups"]: row["rp"] for row in rows if row["from"] == "bsr"}
+
+    def behind(self) -> dict[str, str]:
+        """The RPs that FRR learned, by their ranges."""
+        said = self.net.frr("behind", "show ip pim rp-info json")
+        rows = [(rp, row) for rp, found in (json.loads(said) if said.strip() else {}).items() for row in found]
+        return {row["group"]: rp for rp, row in rows if row["source"] == "BSR"}
+
+    def end(self) -> None:
+        for one in self.net.running[self.before:]:
+            if one.poll() is None:
+                one.terminate()
+                one.wait()
+        self.net.delete(ROUTES)
+
+
+def both_have(chain: Chain, what: str, rps: list[str]) -> dict[str, str]:
+    """The router and FRR have the same RP of each range, of these."""
+    def has_all() -> bool:
+        heard = chain.heard()
+        return sorted(heard) == sorted(GROUPS) and set(heard.values()) <= set(rps) and chain.behind() == heard
+    try:
+        until(what, 30, has_all)
+    except Failed as failed:
+        raise Failed(f"{failed}: the router has {chain.heard()}, and FRR {chain.behind()}") from None
+    return chain.heard()
+
+
+def bootstraps_are_heard_and_passed_on(net: Network) -> str:
+    """the router has the RPs that a BSR says, FRR behind it the same; others move both, and silence ends them in both"""
+    chain = Chain(net)
+    try:
+        chain.lay_out()
+        chain.start()
+        first = chain.say(25, *CANDIDATES)
+        chosen = both_have(chain, "both have RPs of the BSR", CANDIDATES)
+        first.terminate()
+        last = chain.say(8, OTHER)
+        both_have(chain, f"both have {OTHER}", [OTHER])
+        last.wait()
+        until("the RPs end in both", HOLDTIME + 15, lambda: not chain.heard() and not chain.behind())
+    finally:
+        chain.end()
+    counts = [list(chosen.values()).count(rp) for rp in CANDIDATES]
+    return f"{RANGES} ranges, of which {', '.join(map(str, counts))} have one of {len(CANDIDATES)} RPs each"
+
+
+TRIALS = [bootstraps_are_heard_and_passed_on]
