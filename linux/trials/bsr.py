@@ -15,7 +15,6 @@ from trials.network import AS_SERVICE, NAMES, NOBODY, PIMD, SENDER, Failed, insi
 
 if TYPE_CHECKING:
     import subprocess
-    from pathlib import Path
 
     from trials.network import Network
 
@@ -102,7 +101,7 @@ def both_have(chain: Chain, what: str, rps: list[str]) -> dict[str, str]:
 
 
 def bootstraps_are_heard_and_passed_on(net: Network) -> str:
-    """the router has the RPs that a BSR says, FRR behind it the same; others move both, and silence ends them in both"""
+    """the router has the RPs of a BSR, FRR behind it the same; others move both, and silence ends them in both"""
     chain = Chain(net)
     try:
         chain.lay_out()
