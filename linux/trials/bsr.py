@@ -1,6 +1,6 @@
 """A BSR that is a program, the router, and FRR's pimd behind it:
 
-    bsr -- 10.81.0.0/24 -- heard -- 10.82.0.0/24 -- behind
+    bsr -- 10.81.0.0/24 -- heard -- 10.82.0.0/24 -- behind -- 10.83.0.0/24 -- behind-host
 
 Both are to have the RPs that the Bootstraps say: FRR hears them of the router alone.
 """
@@ -9,6 +9,7 @@ from __future__ import annotations
 import json
 import os
 import shutil
+import time
 from typing import TYPE_CHECKING
 
 from trials.network import AS_SERVICE, NAMES, NOBODY, PIMD, SENDER, Failed, inside, ip, run, until
@@ -19,13 +20,21 @@ if TYPE_CHECKING:
     from trials.network import Network
 
 BSR = "10.81.0.1"
-LINKS = [("bsr", f"{BSR}/24", "heard", "10.81.0.2/24"), ("heard", "10.82.0.1/24", "behind", "10.82.0.2/24")]
-ROUTES = {"bsr": ["10.82.0.0/24 via 10.81.0.2"], "heard": [], "behind": ["10.81.0.0/24 via 10.82.0.1"]}
+LINKS = [("bsr", f"{BSR}/24", "heard", "10.81.0.2/24"), ("heard", "10.82.0.1/24", "behind", "10.82.0.2/24"),
+         ("behind", "10.83.0.1/24", "behind-host", "10.83.0.50/24")]
+ROUTES = {"bsr": ["default via 10.81.0.2"], "heard": ["10.83.0.0/24 via 10.82.0.2"],
+          "behind": ["10.81.0.0/24 via 10.82.0.1"], "behind-host": ["default via 10.83.0.1"]}
 RANGES = 12
 GROUPS = [f"239.{41 + number}.0.0/16" for number in range(RANGES)]
 CANDIDATES = ["10.81.0.1", "10.81.0.3", "10.81.0.4"]
 # It takes the place of all of them.
 OTHER = "10.81.0.9"
+# The router as RP, and then FRR.
+OWN, NEXT = "10.81.0.2", "10.82.0.2"
+STREAM, HOST = "239.41.1.1", "10.83.0.50"
+RATE, SECONDS = 50, 16
+# In ms, and in packets.
+LONGEST_GAP, MOST_LOST = 1_000, 50
 # In seconds: for how long a message holds, and how often FRR's neighbours are heard.
 HOLDTIME, HELLO = 20, 5
 
@@ -51,6 +60,7 @@ class Chain:
 
     def start(self) -> None:
         PIMD["behind"] = f"interface to-heard\n ip pim\n ip pim hello {HELLO}\n"
+        PIMD["behind"] += "interface to-behind-host\n ip pim\n ip igmp\n"
         self.net.start_frr("behind")
         own = self.net.room / "heard"
         own.mkdir(exist_ok=True)
@@ -119,4 +129,29 @@ def bootstraps_are_heard_and_passed_on(net: Network) -> str:
     return f"{RANGES} ranges, of which {', '.join(map(str, counts))} have one of {len(CANDIDATES)} RPs each"
 
 
-TRIALS = [bootstraps_are_heard_and_passed_on]
+def a_learned_rp_serves_a_stream(net: Network) -> str:
+    """a stream comes by an RP that is learned, the router, and goes on when a Bootstrap says that FRR is the RP"""
+    chain, count = Chain(net), RATE * SECONDS
+    try:
+        chain.lay_out()
+        chain.start()
+        first = chain.say(60, OWN)
+        both_have(chain, f"both have {OWN}", [OWN])
+        receiver = net.receive("behind-host", STREAM, HOST, count, SECONDS + 10)
+        joined = lambda: STREAM in {row["group"] for row in net.show("joins", control=chain.control)}
+        until("FRR joins at the learned RP", 20, joined)
+        net.send("bsr", STREAM, BSR, count, RATE)
+        time.sleep(SECONDS / 3)
+        first.terminate()
+        chain.say(SECONDS, NEXT)
+        both_have(chain, f"both have {NEXT}", [NEXT])
+        words = receiver.communicate()[0].split()
+        came, gap = int(words[1]), int(words[words.index("gap") + 1])
+        if count - came > MOST_LOST or gap > LONGEST_GAP:
+            raise Failed(f"{came} of {count} came, with a gap of {gap} ms")
+    finally:
+        chain.end()
+    return f"{came} of {count} packets, with a gap of {gap} ms"
+
+
+TRIALS = [bootstraps_are_heard_and_passed_on, a_learned_rp_serves_a_stream]
