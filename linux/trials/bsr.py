@@ -9,10 +9,12 @@ from __future__ import annotations
 import json
 import os
 import shutil
+import signal
 import time
 from typing import TYPE_CHECKING
 
 from trials.network import AS_SERVICE, NAMES, NOBODY, PIMD, SENDER, Failed, inside, ip, run, until
+from trials.upgrade import GOES_ON
 
 if TYPE_CHECKING:
     import subprocess
@@ -27,8 +29,8 @@ ROUTES = {"bsr": ["default via 10.81.0.2"], "heard": ["10.83.0.0/24 via 10.82.0.
 RANGES = 12
 GROUPS = [f"239.{41 + number}.0.0/16" for number in range(RANGES)]
 CANDIDATES = ["10.81.0.1", "10.81.0.3", "10.81.0.4"]
-# It takes the place of all of them.
-OTHER = "10.81.0.9"
+# They take the place of all of them.
+OTHER, LAST = "10.81.0.9", "10.81.0.10"
 # The router as RP, and then FRR.
 OWN, NEXT = "10.81.0.2", "10.82.0.2"
 STREAM, HOST = "239.41.1.1", "10.83.0.50"
@@ -43,7 +45,7 @@ class Chain:
     """The router, FRR behind it, and the BSR's messages."""
 
     def __init__(self, net: Network) -> None:
-        self.net, self.before = net, len(net.running)
+        self.net, self.before, self.router = net, len(net.running), None
         self.control = net.room / "heard" / "control"
 
     def lay_out(self) -> None:
@@ -72,12 +74,22 @@ class Chain:
         file = self.net.room / "heard.toml"
         file.write_text(f'log = "debug"\nsocket = "{self.control}"\n\n{ports}[bsr]\nlisten = true\n')
         with open(self.net.room / "heard.log", "a") as log:
-            self.net.start("heard", *AS_SERVICE, program, "run", file, stderr=log)
+            self.router = self.net.start("heard", *AS_SERVICE, program, "run", file, stderr=log)
 
-    def say(self, seconds: int, *rps: str) -> subprocess.Popen[str]:
-        """The BSR says for so many seconds that these are the RPs of each range."""
-        words = ["python3", SENDER, "to-heard", BSR, "bootstraps", seconds, HOLDTIME, RANGES, *rps]
-        return self.net.start("bsr", *words)
+    def upgrade(self) -> None:
+        """Another program takes the router's place."""
+        program, log = self.net.room / "viqeshord", self.net.room / "heard.log"
+        before = log.read_text().count(GOES_ON)
+        shutil.copy(program, self.net.room / "viqeshord.new")
+        os.rename(self.net.room / "viqeshord.new", program)
+        self.router.send_signal(signal.SIGUSR2)
+        until("the other program goes on", 30, lambda: log.read_text().count(GOES_ON) > before)
+
+    def say(self, seconds: int, *rps: str, fragments: int = 0) -> subprocess.Popen[str]:
+        """The BSR says for so many seconds that these are the RPs of each range; it may say the first so many alone, in
+        fragments."""
+        what = ["fragments", fragments] if fragments else ["bootstraps"]
+        return self.net.start("bsr", "python3", SENDER, "to-heard", BSR, *what, seconds, HOLDTIME, RANGES, *rps)
 
     def heard(self) -> dict[str, str]:
         """The RPs of the router, by their ranges."""
@@ -111,7 +123,7 @@ def both_have(chain: Chain, what: str, rps: list[str]) -> dict[str, str]:
 
 
 def bootstraps_are_heard_and_passed_on(net: Network) -> str:
-    """the router has the RPs of a BSR, FRR behind it the same; others move both, and silence ends them in both"""
+    """the router and FRR behind it have the RPs of a BSR; a fragment moves neither, a message both, silence ends both"""
     chain = Chain(net)
     try:
         chain.lay_out()
@@ -119,8 +131,11 @@ def bootstraps_are_heard_and_passed_on(net: Network) -> str:
         first = chain.say(25, *CANDIDATES)
         chosen = both_have(chain, "both have RPs of the BSR", CANDIDATES)
         first.terminate()
-        last = chain.say(8, OTHER)
-        both_have(chain, f"both have {OTHER}", [OTHER])
+        chain.say(5, OTHER, LAST, fragments=1).wait()
+        if not chain.heard() == chain.behind() == chosen:
+            raise Failed(f"by a fragment the router has {chain.heard()}, and FRR {chain.behind()}")
+        last = chain.say(8, OTHER, LAST, fragments=2)
+        both_have(chain, "both have the RPs of the whole message", [OTHER, LAST])
         last.wait()
         until("the RPs end in both", HOLDTIME + 15, lambda: not chain.heard() and not chain.behind())
     finally:
@@ -130,7 +145,7 @@ def bootstraps_are_heard_and_passed_on(net: Network) -> str:
 
 
 def a_learned_rp_serves_a_stream(net: Network) -> str:
-    """a stream comes by an RP that is learned, the router, and goes on when a Bootstrap says that FRR is the RP"""
+    """a stream by a learned RP, the router, goes on over an upgrade, and when a Bootstrap says that FRR is the RP"""
     chain, count = Chain(net), RATE * SECONDS
     try:
         chain.lay_out()
@@ -141,7 +156,10 @@ def a_learned_rp_serves_a_stream(net: Network) -> str:
         joined = lambda: STREAM in {row["group"] for row in net.show("joins", control=chain.control)}
         until("FRR joins at the learned RP", 20, joined)
         net.send("bsr", STREAM, BSR, count, RATE)
-        time.sleep(SECONDS / 3)
+        time.sleep(SECONDS / 4)
+        chain.upgrade()
+        both_have(chain, f"both still have {OWN}", [OWN])
+        time.sleep(SECONDS / 4)
         first.terminate()
         chain.say(SECONDS, NEXT)
         both_have(chain, f"both have {NEXT}", [NEXT])

@@ -21,6 +21,8 @@
     sender.py INTERFACE ADDRESS bootstraps SECONDS HOLDTIME COUNT RP ..  each second a Hello, and a Bootstrap of this
                                                         address: COUNT ranges of 16 bits, from 239.41.0.0 on, with
                                                         these RPs each
+    sender.py INTERFACE ADDRESS fragments FIRST SECONDS HOLDTIME COUNT RP ..  the same in a fragment for each RP, of
+                                                        which the first so many are sent
     sender.py INTERFACE ADDRESS heard SECONDS           it prints a line, and then how many packets of 1.0.0.1 came
 """
 import socket
@@ -94,10 +96,10 @@ def carried(group: bytes) -> list[bytes]:
     return [register_of(ip(LOWEST, group, IGMP, message, ttl=9)) for message in messages]
 
 
-def bootstrap(bsr: bytes, tag: int, holdtime: int, count: int, rps: list[bytes]) -> bytes:
-    """A Bootstrap (RFC 5059, 4.1) with a hash mask of 30 bits and BSR priority 64."""
+def bootstrap(bsr: bytes, tag: int, holdtime: int, count: int, rps: list[bytes], of: int) -> bytes:
+    """A Bootstrap (RFC 5059, 4.1) with a hash mask of 30 bits and BSR priority 64: these RPs of so many of a range."""
     candidates = b"".join(bytes([1, 0]) + rp + struct.pack("!HBB", holdtime, 0, 0) for rp in rps)
-    ranges = b"".join(bytes([1, 0, 0, 16, 239, 41 + number, 0, 0, len(rps), len(rps), 0, 0]) + candidates
+    ranges = b"".join(bytes([1, 0, 0, 16, 239, 41 + number, 0, 0, of, len(rps), 0, 0]) + candidates
                       for number in range(count))
     return summed(bytes([0x24, 0, 0, 0]) + struct.pack("!HBB", tag, 30, 64) + bytes([1, 0]) + bsr + ranges)
 
@@ -192,12 +194,15 @@ def main() -> None:
             link.send(packets[number % count])
             if number % 64 == 63:
                 time.sleep(0.004)
-    elif what == "bootstraps":
+    elif what in ("bootstraps", "fragments"):
+        first = int(rest.pop(0)) if what == "fragments" else None
         seconds, holdtime, count = map(int, rest[:3])
+        rps = [socket.inet_aton(rp) for rp in rest[3:]]
         for number in range(seconds):
             link.send(ip(own, ALL_PIM_ROUTERS, PIM, hello(9, priority=0)))
-            message = bootstrap(own, number, holdtime, count, [socket.inet_aton(rp) for rp in rest[3:]])
-            link.send(ip(own, ALL_PIM_ROUTERS, PIM, message))
+            for some in [rps] if first is None else [[rp] for rp in rps[:first]]:
+                message = bootstrap(own, number, holdtime, count, some, len(rps))
+                link.send(ip(own, ALL_PIM_ROUTERS, PIM, message))
             time.sleep(1)
     elif what == "heard":
         print(heard(interface, float(rest[0])))
