@@ -123,7 +123,7 @@ def both_have(chain: Chain, what: str, rps: list[str]) -> dict[str, str]:
 
 
 def bootstraps_are_heard_and_passed_on(net: Network) -> str:
-    """the router and FRR behind it have the RPs of a BSR; a fragment moves neither, a message both, silence ends both"""
+    """the router and FRR behind it have the RPs of a BSR; a fragment moves none, a message both, silence ends both"""
     chain = Chain(net)
     try:
         chain.lay_out()
