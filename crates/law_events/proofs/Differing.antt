@@ -238,9 +238,9 @@ same_but_ends_touches_nothing s t shared e q out =
 
 -- ---- what follows
 
-pub differing_settles : (o : State) → IsQuiet o → IsOrdered o → (change : State × List Message) (w : ℕ)
+pub changed_keys_settle : (o : State) → IsQuiet o → IsOrdered o → (change : State × List Message) (w : ℕ)
     → IsOrdered change.0 → IsShared o change.0 → settled o change w ≡ own_settled (differing o change.0) o change w
-differing_settles o quiet before change w after shared = grind (arith, settling_is_own, differing_keys_cover)
+changed_keys_settle o quiet before change w after shared = grind (arith, settling_is_own, differing_keys_cover)
 
 pub none_left : {X : Type 0} (p : X → Bool) → ((x : X) → p x ≡ false) → (xs : List X) → filter p xs ≡ []
 none_left p none [] = refl

@@ -72,8 +72,8 @@ abbrev pub DifferingIsLeast : Type 0
 DifferingIsLeast = (s t : State) (k : Key) → AgreesWhollyOn k s t → touching (differing s t) k ≡ false
 
 -- From a quiet state all that follows of a change follows of the keys at which rows differ.
-abbrev pub DifferingSettles : Type 0
-DifferingSettles =
+abbrev pub ChangedKeysSettle : Type 0
+ChangedKeysSettle =
     (o : State) → IsQuiet o → IsOrdered o → (change : State × List Message) (w : ℕ) → IsOrdered change.0
     → IsShared o change.0 → settled o change w ≡ own_settled (differing o change.0) o change w
 

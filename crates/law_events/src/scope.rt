@@ -1,7 +1,7 @@
 //! Locality: what the machines of (*,G), and those of a source of it, read of a state, so that the cost of an event
 //! depends on what it concerns. Laws of the definitions, each the contract of a function with nothing to do.
 
-ghost use Rattle.law_events.specs.Differing.{AgreedRowsAreSame, DifferingIsLeast, DifferingKeysCover, DifferingSettles, NamedKeysCover, NewKeysDiffer, NothingFollows, SameButEndsSettles, SameButEndsTouchesNothing};
+ghost use Rattle.law_events.specs.Differing.{AgreedRowsAreSame, DifferingIsLeast, DifferingKeysCover, ChangedKeysSettle, NamedKeysCover, NewKeysDiffer, NothingFollows, SameButEndsSettles, SameButEndsTouchesNothing};
 ghost use Rattle.law_events.specs.Events.{ChangeTouches, EventIsLocal, FiringIsLocal};
 ghost use Rattle.law_events.specs.JoinPrunes.{JoinPruneAgain, JoinPruneIsLocal, JoinPruneTouchesMoved};
 ghost use Rattle.law_events.specs.Locality.{AgreedSourceIsUntold, AgreedStarIsUntold, AssertsAreLocal, ClearingIsLocal, CouldRegisterIsLocal, NextToClearIsLocal, OpeningIsQuiet, PresentTouchesNone, QuietGoesOn, RegistersAreLocal, RowsElsewhereStay, SettlingClears, SettlingIsLocal, SettlingIsOwn, SettlingQuiets, SourceDesiresAreLocal, SourceViewsAreLocal, SourcesAreOwn, SourcesStandOnce, StarDesiresAreLocal, StarViewsAreLocal, TouchingIsClosed, TreeStatesAreLocal, UpstreamIsLocal, UpstreamIsOwn};
@@ -311,9 +311,9 @@ pub fn differing_is_least()
 {}
 
 /// All that follows of a change follows of the keys under which rows differ.
-#[tactic(auto, using(crate::proofs::Differing::differing_settles))]
-pub fn differing_settles()
-    ensures { DifferingSettles }
+#[tactic(auto, using(crate::proofs::Differing::changed_keys_settle))]
+pub fn changed_keys_settle()
+    ensures { ChangedKeysSettle }
 {}
 
 /// A change only of when timers expire, in whatever table, touches nothing.

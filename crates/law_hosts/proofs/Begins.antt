@@ -6,7 +6,7 @@ use Rattle.igmp_wire.{specs.Values.Record}
 use Rattle.pim_model.{specs.{declared.accepted.Accepted.Accepted, Full.is_full, Judging.{Judged, frame_judged, igmp_judged, igmp_message_judged, ignore_if, judged, packet_judged, refuse_if, ◌>>◌}, Querier.report_seen, State.{State, iface_count, is_own, is_up}, Step.{Answered, change, concluded, done, step, taken, taken_unless_full}, Tables.Table}}
 use Rattle.law_settled.{proofs.{RowLaws.row_put, UnchangedLaws.full_or_taken}}
 use Rattle.law_streams.{proofs.Same.{Rows, settled_same}}
-use Rattle.igmp_older.{specs.{Joined.{Both, bytes_given, event_given, joined_step, kind_given, known_after, known_if, present_end, rows_of}, Modes.{heard, is_report}, Open.IsOpen, Presence.{Present, has_room, hosts_on, noted_of, report_noted, timers_at}, Translation.{Translation, packet_given, translation}, declared.{mode.PresentRow.PresentRow, older.{Older.Older, OlderKind.OlderKind}}}, proofs.{OpenLaws.{Tables, older_report_opens, same_open}, TakenLaws.{IsGivable, givable, message_reads, packet_reads, packet_size}}}
+use Rattle.igmp_older.{specs.{Joined.{FrontedRouter, bytes_given, event_given, joined_step, kind_given, known_after, known_if, present_end, rows_of}, Modes.{heard, is_report}, Open.IsOpen, Presence.{Present, has_room, hosts_on, noted_of, report_noted, timers_at}, Translation.{Translation, packet_given, translation}, declared.{mode.PresentRow.PresentRow, older.{Older.Older, OlderKind.OlderKind}}}, proofs.{OpenLaws.{Tables, older_report_opens, same_open}, TakenLaws.{IsGivable, givable, message_reads, packet_reads, packet_size}}}
 use Rattle.law_hosts.{specs.Held.{IsHeld, knows_until}}
 
 -- ---- what was done was accepted
@@ -45,7 +45,7 @@ noted_known : (p : Present) (i end : ℕ) (older : Older) → is_report older.ki
 unfolding report_noted timers_at
 noted_known p i end older told room = grind (arith, row_put, nat_tests, heard_until)
 
-module _ (b : Both) (w : ℕ) (i : IfaceId) (bytes : List ℕ) (t : Translation) (older : Older)
+module _ (b : FrontedRouter) (w : ℕ) (i : IfaceId) (bytes : List ℕ) (t : Translation) (older : Older)
     (is : translation (rows_of b) b.state.present i.number (hosts_on b.present i.number) bytes ≡ Some t) (said : t.older ≡ Some older) (told : is_report older.kind ≡ true)
     (room : has_room b.present i.number older.group.bits ≡ true) where
   abbrev s : State
@@ -99,7 +99,7 @@ module _ (b : Both) (w : ℕ) (i : IfaceId) (bytes : List ℕ) (t : Translation)
   unfolding joined_step known_if
   held done = grind (arith, stepped, opens, known_so, noted_known)
 
-pub older_begins : (b : Both) (w : ℕ) (i : IfaceId) (bytes : List ℕ) (t : Translation) (older : Older) (g : ℕ)
+pub older_begins : (b : FrontedRouter) (w : ℕ) (i : IfaceId) (bytes : List ℕ) (t : Translation) (older : Older) (g : ℕ)
     → translation (rows_of b) b.state.present i.number (hosts_on b.present i.number) bytes ≡ Some t → t.older ≡ Some older → is_report older.kind ≡ true
     → older.group.bits ≡ g → has_room b.present i.number g ≡ true
     → (let e : Event = record { draw = w; kind = EventKind.Frame i bytes } in

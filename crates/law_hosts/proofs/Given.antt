@@ -7,7 +7,7 @@ use Rattle.pim_model.{specs.{declared.accepted.Accepted.Accepted, Full.is_full, 
 use Rattle.law_settled.{proofs.ReadPackets.packet_is}
 use Rattle.law_plane.{specs.{Offload.{Handling, is_to_core}, OffloadLaws.IsData, Split.{Split, nothing_sent, passes_quietly, with_notice}, ToldLaws.PlaneRows}, proofs.Times.not_lt}
 use Rattle.law_states.{specs.{Documented.{judged_for_core, kind_for_core}, Guests.{guest_handled, guest_judgement, guest_kind}, Kept.{Way, kept_core, kept_plane, kept_time}}, proofs.Frames.{ByFrame, by_frame}}
-use Rattle.igmp_older.{specs.{Joined.{Both, bytes_given, event_given, joined_step, kind_given, known_after, known_if, noted_if, older_of, present_end, rows_of}, Naming.groups_named, Presence.{Present, doubted, hosts_on, looked}, Translation.{Translation, packet_given, translation}}, proofs.Passing.{no_group_of_another, other_protocol}}
+use Rattle.igmp_older.{specs.{Joined.{FrontedRouter, bytes_given, event_given, joined_step, kind_given, known_after, known_if, noted_if, older_of, present_end, rows_of}, Naming.groups_named, Presence.{Present, doubted, hosts_on, looked}, Translation.{Translation, packet_given, translation}}, proofs.Passing.{no_group_of_another, other_protocol}}
 
 -- ---- packets of data
 
@@ -33,7 +33,7 @@ given_is_igmp : (t : Translation) → is_igmp (packet_given t) ≡ true
 unfolding packet_given igmp_packet_text header_text with_checksum
 given_is_igmp t = refl
 
-module _ (b : Both) (i : IfaceId) (bytes : List ℕ) (other : is_igmp bytes ≡ false) where
+module _ (b : FrontedRouter) (i : IfaceId) (bytes : List ℕ) (other : is_igmp bytes ≡ false) where
   not_two : get_or bytes 9 0 ≢ 2
   not_two e = let no : is_igmp bytes ≡ true = eq-eqb (get_or bytes 9 0) protocol_igmp e in cc
 
@@ -68,7 +68,7 @@ module _ (x : Split) (guests : PlaneRows) where
   igmp_so i bytes igmp j is = refl
 
   -- what the front gives of an event for the router is for the router
-  pub given_for_core : (b : Both) (kind : EventKind) → kind_for_core x guests kind ≡ true → kind_for_core x guests (kind_given b kind) ≡ true
+  pub given_for_core : (b : FrontedRouter) (kind : EventKind) → kind_for_core x guests kind ≡ true → kind_for_core x guests (kind_given b kind) ≡ true
   unfolding kind_given bytes_given
   given_for_core b (EventKind.Frame i bytes) f =
       go (translation (rows_of b) b.state.present i.number (hosts_on b.present i.number) bytes)
@@ -136,7 +136,7 @@ module _ (s : State) (w m : ℕ) (on : s.present ≤ m) (early : m ≤ last_mome
   unfolding step taken_unless_full is_full taken
   time_steps = ap (λ (j : Judged). concluded s (taken_unless_full s w) j) judged_so
 
-pub time_known : (b : Both) (w m : ℕ) → (step b.state (time w m)).answer ≡ Ok Verdict.Done
+pub time_known : (b : FrontedRouter) (w m : ℕ) → (step b.state (time w m)).answer ≡ Ok Verdict.Done
     → (joined_step b (time w m)).1.present ≡ looked (step b.state (time w m)).state.group_records m b.present
 unfolding joined_step event_given kind_given known_if known_after
 time_known b w m done = ap (λ (a : Result Verdict Refusal). known_if b (step b.state (time w m)).state (EventKind.Advance m) a) done

@@ -5,10 +5,10 @@ use Rattle.pim_types.{specs.{declared.{config.IfaceId.IfaceId, event.Event.Event
 use Rattle.igmp_wire.{specs.{Values.Record, declared.report.RecordType.RecordType}}
 use Rattle.pim_model.{specs.{declared.accepted.Accepted.Accepted, Cause.{done_as, if_done}, Judging.{Judged, judged}, Querier.query_end, Receivers.{local_receiver_exclude, local_receiver_star}, State.State, Step.step, Tables.{Table, has_row}}}
 use Rattle.law_settled.{proofs.{ListLaws.each_both, Steps.step_is_settled}, specs.Ready.IsSettled}
-use Rattle.igmp_older.{specs.{Joined.{Both, event_given, joined, joined_step, kind_given, present_end, rows_of}, Open.{IsMild, IsMildAbout, IsMildOnInterface, IsOpen}, Presence.timers_at, declared.mode.PresentRow.PresentRow}, proofs.{LiveLaws.live_there, OpenLaws.open_is_served}}
+use Rattle.igmp_older.{specs.{Joined.{FrontedRouter, event_given, joined, joined_step, kind_given, present_end, rows_of}, Open.{IsMild, IsMildAbout, IsMildOnInterface, IsOpen}, Presence.timers_at, declared.mode.PresentRow.PresentRow}, proofs.{LiveLaws.live_there, OpenLaws.open_is_served}}
 use Rattle.law_hosts.{specs.{Held.{AllMayHold, IsHeld, MayHold, TakenHolds, knows_until}, Staying.KeepsOpen}, proofs.{Events.event_keeps_open, Judged.{Barred, IsBarred, all_barred}, Known.{older_mode, stays_known}}}
 
-pub still_settled : (b : Both) (e : Event) → IsSettled b.state → IsSettled (joined_step b e).1.state
+pub still_settled : (b : FrontedRouter) (e : Event) → IsSettled b.state → IsSettled (joined_step b e).1.state
 unfolding joined_step
 still_settled b e rest = step_is_settled b.state (event_given b e) rest
 
@@ -41,7 +41,7 @@ module _ (t i g : ℕ) where
   unfolding has_row
   record_there s f = grind arith
 
-  pub event_keeps_held : (b : Both) (e : Event) → IsSettled b.state → IsHeld t i g b → MayHold t i g b e → IsHeld t i g (joined_step b e).1
+  pub event_keeps_held : (b : FrontedRouter) (e : Event) → IsSettled b.state → IsHeld t i g b → MayHold t i g b e → IsHeld t i g (joined_step b e).1
   unfolding joined_step event_given done_as
   event_keeps_held b e rest held may =
       let given : Event = event_given b e in
@@ -61,12 +61,12 @@ module _ (t i g : ℕ) where
         known = stays_known t i g b after e.kind (step b.state given).answer may.whole some may.kind (record_there after stays) held.known;
       }
 
-  pub run_keeps_held : (b : Both) (es : List Event) → IsSettled b.state → IsHeld t i g b → AllMayHold t i g b es → IsHeld t i g (joined b es).1
+  pub run_keeps_held : (b : FrontedRouter) (es : List Event) → IsSettled b.state → IsHeld t i g b → AllMayHold t i g b es → IsHeld t i g (joined b es).1
   unfolding joined
   run_keeps_held b [] rest held may = held
   run_keeps_held b (e ∷ es) rest held may =
       run_keeps_held (joined_step b e).1 es (still_settled b e rest) (event_keeps_held b e rest held may.0) may.1
 
-  pub held_is_served : (b : Both) → IsHeld t i g b
+  pub held_is_served : (b : FrontedRouter) → IsHeld t i g b
       → (local_receiver_star b.state g i ≡ true) × ((src : ℕ) → local_receiver_exclude b.state g src i ≡ false)
   held_is_served b held = open_is_served t i g b.state held.open_there

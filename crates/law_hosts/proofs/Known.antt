@@ -5,7 +5,7 @@ use Rattle.pim_types.{specs.{Keys.{is_on, same_key, star_key}, declared.{event.E
 use Rattle.pim_model.{specs.{State.State, Tables.{Table, has_row, put, row_at}}}
 use Rattle.law_settled.{proofs.{ListLaws.{by_cond, either}, RowLaws.{row_kept, row_put, row_put_away}}}
 use Rattle.law_streams.{proofs.Climbs.swapped}
-use Rattle.igmp_older.{specs.{Joined.{Both, known_after, known_if, noted_if, present_end}, Modes.{heard, look_by, mode_of, row_by, runs}, Presence.{Present, doubted, doubted_at, left, looked, mode_at, noted_of, record_at, report_noted, row_after, row_or_nobody, timers_at}, declared.{mode.{Mode.Mode, PresentRow.PresentRow}, older.{Older.Older, OlderKind.OlderKind}}}}
+use Rattle.igmp_older.{specs.{Joined.{FrontedRouter, known_after, known_if, noted_if, present_end}, Modes.{heard, look_by, mode_of, row_by, runs}, Presence.{Present, doubted, doubted_at, left, looked, mode_at, noted_of, record_at, report_noted, row_after, row_or_nobody, timers_at}, declared.{mode.{Mode.Mode, PresentRow.PresentRow}, older.{Older.Older, OlderKind.OlderKind}}}}
 use Rattle.law_hosts.{specs.Held.{KindHolds, knows_until}}
 
 module _ (t i g : ℕ) where
@@ -99,12 +99,12 @@ module _ (t i g : ℕ) where
 
   -- ---- any event
 
-  done_known : (b : Both) (after : State) (kind : EventKind) → nat_le t (present_end b.state i) ≡ true → 0 < t → KindHolds t i kind → has_row after.group_records (star_key i g) ≡ true → Knows b.present.rows
+  done_known : (b : FrontedRouter) (after : State) (kind : EventKind) → nat_le t (present_end b.state i) ≡ true → 0 < t → KindHolds t i kind → has_row after.group_records (star_key i g) ≡ true → Knows b.present.rows
       → Knows (known_after b after kind).rows
   unfolding known_after
   done_known b after kind whole some h there f = grind (arith, if_known, eqb-true, looked_known, left_known)
 
-  pub stays_known : (b : Both) (after : State) (kind : EventKind) (answer : Result Verdict Refusal) → nat_le t (present_end b.state i) ≡ true → 0 < t → KindHolds t i kind
+  pub stays_known : (b : FrontedRouter) (after : State) (kind : EventKind) (answer : Result Verdict Refusal) → nat_le t (present_end b.state i) ≡ true → 0 < t → KindHolds t i kind
       → has_row after.group_records (star_key i g) ≡ true → Knows b.present.rows → Knows (known_if b after kind answer).rows
   unfolding known_if
   stays_known b after kind answer whole some h there f = grind (arith, done_known)

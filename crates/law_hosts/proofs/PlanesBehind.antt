@@ -6,8 +6,8 @@ use Rattle.law_settled.{specs.{Laws.ends_after, Ready.IsTimeless}, proofs.Steps.
 use Rattle.law_events.{proofs.{Rest.opening_is_at_rest, RowsOfRuns.few_opening}}
 use Rattle.law_plane.{specs.{Split.{Notice, Split, advance_to, passes_quietly}, SplitLaws.NamesEachOnce, ToldLaws.{PlaneRows, no_plane_rows}}, proofs.{Ends.{ends_later, no_ends}, Passes.{Passed, ended_by}, Splits.{Follows, opening_is_early, whole_follows}, Times.passes, ToldRows.opening_is_told}}
 use Rattle.law_states.{specs.{Documented.{Act, AreRight, Doing, IsRight, IsTelling, act, acted, event_of, events_in, given, goes_at_once, is_for_core, kind_for_core, known_then, plain_act}, Guests.{AreHeld, Plane, guest_kind}, Kept.{Way, kept_up, told_notes}}, proofs.{AtOnce.advance_at_once, DocumentedPlanes.{Went, rise_so, heard_is, tells_goes, tells_held, tells_near, went}, GuestSplits.{asked_held, none_held}, KeptOrders.{each_so_far, told_so_far}, KeptUp.{ToldBy, kept_follows}, NearEnds.{EndsNear, opening_near, step_near}}}
-use Rattle.igmp_older.{specs.{Joined.{Both, event_given, joined_step, joined_with, kind_given, known_after, known_if}, Laws.{nobody_known}, Presence.{Present, looked}, declared.setting.OlderHosts.OlderHosts}}
-use Rattle.law_hosts.{specs.Behind.{both_of, both_told, both_caught_up, Fronted, PlainActsBehindAreRight, fronted_at_opening, plain_behind, PlaneBehindFrontIsSound, TellingAgainOnlyLooks, act_given, again_ran, again_step, both_before, fronted, fronted_after, fronted_told, is_the_routers, known_now, with_event}, proofs.{Told.{quietly_looked, told_at_last, told_state}, Given.{IsFrame, data_given, data_known, given_for_core, judged_frame, kind_core, time, time_known, time_steps}, Looks.{looked_once, same_lasts, time_lasts}}}
+use Rattle.igmp_older.{specs.{Joined.{FrontedRouter, event_given, joined_step, joined_with, kind_given, known_after, known_if}, Laws.{nobody_known}, Presence.{Present, looked}, declared.setting.OlderHosts.OlderHosts}}
+use Rattle.law_hosts.{specs.Behind.{front_and_router, after_notes, after_catching_up, Fronted, PlainActsBehindAreRight, fronted_at_opening, plain_behind, PlaneBehindFrontIsSound, TellingAgainOnlyLooks, act_given, again_ran, again_step, before_event, fronted, fronted_after, fronted_told, is_the_routers, known_now, with_event}, proofs.{Told.{quietly_looked, told_at_last, told_state}, Given.{IsFrame, data_given, data_known, given_for_core, judged_frame, kind_core, time, time_known, time_steps}, Looks.{looked_once, same_lasts, time_lasts}}}
 
 self : (n : ℕ) → n ≤ n
 self n = omega arith
@@ -23,7 +23,7 @@ looked_at : (s : State) (p : Present) → known_now s (known_now s p) ≡ known_
 looked_at s p = looked_once s.present s.present (self s.present) s.group_records s.group_records (same_lasts s.present s.group_records) p
 
 -- A plane behind a front, and a front and a router alone, as they go on.
-record Along (f : Fronted) (b : Both) : Type 0 where
+record Along (f : Fronted) (b : FrontedRouter) : Type 0 where
   follows : Follows f.plane.split b.state
   near : EndsNear f.plane.split.core
   router_near : EndsNear b.state
@@ -31,7 +31,7 @@ record Along (f : Fronted) (b : Both) : Type 0 where
   held : AreHeld f.plane.guests f.plane.split.core
   known : known_now b.state f.present ≡ known_now b.state b.present
 
-module _ (f : Fronted) (b : Both) (along : Along f b) where
+module _ (f : Fronted) (b : FrontedRouter) (along : Along f b) where
   abbrev x : Split
   x = f.plane.split
 
@@ -48,7 +48,7 @@ module _ (f : Fronted) (b : Both) (along : Along f b) where
   r_early = subst (λ (n : ℕ). n ≤ last_moment) (sym present_is) along.follows.early
 
   -- the front alone once it was told the present time again
-  abbrev again : Both
+  abbrev again : FrontedRouter
   again = record { present = known_now r b.present; state = r }
 
   -- ---- notes that are reported
@@ -57,8 +57,8 @@ module _ (f : Fronted) (b : Both) (along : Along f b) where
     abbrev told : State
     told = told_notes w x.core notes
 
-    abbrev told_both : Both
-    told_both = both_told w (both_of f) notes
+    abbrev told_both : FrontedRouter
+    told_both = after_notes w (front_and_router f) notes
 
     told_is : ToldBy x.core along.follows.quiet x.now w along.follows.early along.follows.ahead along.near.ends (ended_by no_ends notes) x.now told
     told_is = told_so_far x r w notes along.follows along.near telling.all telling.once telling.rises
@@ -79,7 +79,7 @@ module _ (f : Fronted) (b : Both) (along : Along f b) where
 
     told_steps : (v m : ℕ) → x.now ≤ m → m ≤ last_moment → step told_both.state (time v m) ≡ step r (time v m)
     told_steps v m on early =
-        ap (λ (s : State). step s (time v m)) (told_state w notes (both_of f))
+        ap (λ (s : State). step s (time v m)) (told_state w notes (front_and_router f))
         ∙ sym (advance_at_once told v x.now m (told_is.is).rests told_since on early told_ahead)
         ∙ ap (λ (s : State). step s (time v m)) up_is
 
@@ -92,20 +92,20 @@ module _ (f : Fronted) (b : Both) (along : Along f b) where
     told_known : known_now r told_both.present ≡ known_now r b.present
     told_known =
         sym (at_present told_both.present)
-        ∙ told_at_last x.core along.follows.quiet x.now w along.follows.early along.follows.ahead along.near.ends notes no_ends (both_of f)
+        ∙ told_at_last x.core along.follows.quiet x.now w along.follows.early along.follows.ahead along.near.ends notes no_ends (front_and_router f)
         (each_so_far x r w notes along.follows along.near telling.all telling.once telling.rises)
         ∙ at_present f.present
         ∙ along.known
 
     told_here : Passed x.core along.follows.quiet (ended_by no_ends notes) told_is.at told_both.state
-    told_here = subst (λ (s : State). Passed x.core along.follows.quiet (ended_by no_ends notes) told_is.at s) (sym (told_state w notes (both_of f))) told_is.is
+    told_here = subst (λ (s : State). Passed x.core along.follows.quiet (ended_by no_ends notes) told_is.at s) (sym (told_state w notes (front_and_router f))) told_is.is
 
     -- and the present time
-    caught_up_state : (both_caught_up f notes w).state ≡ r
+    caught_up_state : (after_catching_up f notes w).state ≡ r
     unfolding joined_step event_given kind_given state_after ran
-    caught_up_state = ap (λ (s : State). (step s (advance_to x.now)).state) (told_state w notes (both_of f)) ∙ up_is
+    caught_up_state = ap (λ (s : State). (step s (advance_to x.now)).state) (told_state w notes (front_and_router f)) ∙ up_is
 
-    caught_up_is : both_caught_up f notes w ≡ again
+    caught_up_is : after_catching_up f notes w ≡ again
     caught_up_is = λ j. record {
       present = (quietly_looked x.core along.follows.quiet x.now w along.follows.early along.follows.ahead along.near.ends
           (ended_by no_ends notes) told_both x.now told_is.at told_here told_is.within told_is.late (self x.now)
@@ -130,7 +130,7 @@ module _ (f : Fronted) (b : Both) (along : Along f b) where
     its_held : AreHeld its_guests x.core
     its_held = asked_held (d.turn).asks x.core f.plane.guests along.held
 
-    abbrev AreAlike : Plane × Outcome → Present → Outcome × Both → Type 0
+    abbrev AreAlike : Plane × Outcome → Present → Outcome × FrontedRouter → Type 0
     AreAlike gone known t = (gone.1 ≡ t.0) × Along (record { plane = gone.0; present = known }) t.1
 
     -- ---- the plane and its router
@@ -177,7 +177,7 @@ module _ (f : Fronted) (b : Both) (along : Along f b) where
       same_event : timed ≡ e
       same_event = λ j. record { draw = e.draw; kind = sym is j }
 
-      time_given : (c : Both) → event_given c e ≡ e
+      time_given : (c : FrontedRouter) → event_given c e ≡ e
       unfolding event_given kind_given
       time_given c = ap (λ (v : Event). event_given c v) (sym same_event) ∙ same_event
 
@@ -204,7 +204,7 @@ module _ (f : Fronted) (b : Both) (along : Along f b) where
       alike_later p alike = sym (looked_later p) ∙ ap (λ (q : Present). looked passed.group_records m q) alike
 
       -- what is known of it by a front before such a state
-      known_by : (c : Both) → step c.state e ≡ advanced r e.draw m → (joined_step c e).1.present ≡ looked passed.group_records m c.present
+      known_by : (c : FrontedRouter) → step c.state e ≡ advanced r e.draw m → (joined_step c e).1.present ≡ looked passed.group_records m c.present
       unfolding advanced
       known_by c same =
           let at : step c.state timed ≡ advanced r e.draw m = ap (λ (v : Event). step c.state v) same_event ∙ same in
@@ -226,7 +226,7 @@ module _ (f : Fronted) (b : Both) (along : Along f b) where
           ∙ ap (λ (s : State). known_now s (joined_step again e).1.present) (sym then_is)
 
       -- time that is given at once
-      at_once_alike : (c : Both) → known_now r c.present ≡ known_now r b.present → step c.state e ≡ step r e
+      at_once_alike : (c : FrontedRouter) → known_now r c.present ≡ known_now r b.present → step c.state e ≡ step r e
           → known_now then (joined_step c e).1.present ≡ known_now then (joined_step again e).1.present
       at_once_alike c known same =
           ap (λ (p : Present). known_now then p) (known_by c (same ∙ stepped) ∙ alike_later c.present known ∙ sym known_again)
@@ -304,14 +304,14 @@ module _ (f : Fronted) (b : Both) (along : Along f b) where
 
     -- ---- the router's own
 
-    abbrev found : Bool → Both
-    found once = cond once (both_told d.way (both_of f) d.told) (both_caught_up f d.told d.way)
+    abbrev found : Bool → FrontedRouter
+    found once = cond once (after_notes d.way (front_and_router f) d.told) (after_catching_up f d.told d.way)
 
     abbrev found_event : Bool → Event
     found_event once = event_given (found once) e
 
     module _ (own : is_for_core x its_guests e ≡ true) where
-      given_own : (c : Both) → is_for_core x its_guests (event_given c e) ≡ true
+      given_own : (c : FrontedRouter) → is_for_core x its_guests (event_given c e) ≡ true
       unfolding is_for_core event_given
       given_own c = given_for_core x its_guests c e.kind own
 
@@ -349,28 +349,28 @@ module _ (f : Fronted) (b : Both) (along : Along f b) where
       by_found true is right = once_by_kind right e.kind refl d.at_once is
       by_found false is right =
           let same : found false ≡ again = caught_up_is d.told d.way (its_telling false right) in
-          goes_alike (found_event false) right (ap (λ (c : Both). event_given c e) same) (joined_step (found false) e).1.present
-          (ap (λ (c : Both). known_now then (joined_step c e).1.present) same)
+          goes_alike (found_event false) right (ap (λ (c : FrontedRouter). event_given c e) same) (joined_step (found false) e).1.present
+          (ap (λ (c : FrontedRouter). known_now then (joined_step c e).1.present) same)
 
-      given_alike : RightOf (with_event d (event_given (both_before f d) e))
-          → AreAlike (act f.plane (with_event d (event_given (both_before f d) e))) (joined_step (both_before f d) e).1.present (joined_step again e)
-      unfolding both_before
+      given_alike : RightOf (with_event d (event_given (before_event f d) e))
+          → AreAlike (act f.plane (with_event d (event_given (before_event f d) e))) (joined_step (before_event f d) e).1.present (joined_step again e)
+      unfolding before_event
       given_alike right = by_found (goes_at_once x d.at_once e.kind) refl right
 
     -- ---- either
 
     abbrev given_if : Bool → Act
-    given_if own = cond own (with_event d (event_given (both_before f d) e)) d
+    given_if own = cond own (with_event d (event_given (before_event f d) e)) d
 
     either : (own : Bool) → is_the_routers f d ≡ own → RightOf (given_if own)
-        → AreAlike (act f.plane (given_if own)) (cond own (joined_step (both_before f d) e).1.present f.present) (joined_step again e)
+        → AreAlike (act f.plane (given_if own)) (cond own (joined_step (before_event f d) e).1.present f.present) (joined_step again e)
     either true is right = given_alike is right
     either false is right = taken right is
 
     told_again : again_step b e ≡ joined_step again e
     unfolding again_step
     told_again =
-        ap (λ (t : Outcome × Both). joined_step t.1 e)
+        ap (λ (t : Outcome × FrontedRouter). joined_step t.1 e)
         (telling_again_only_looks b (along.follows.is).rests r_early)
 
     act_alike : RightOf (act_given f d)
@@ -391,14 +391,14 @@ module _ (f : Fronted) (b : Both) (along : Along f b) where
       router_near = along.router_near;
       apart = tt;
       held = tells_held x r along.follows along.near along.apart notes w telling f.plane.guests along.held;
-      known = ap (λ (c : Both). known_now r c.present) (caught_up_is notes w telling) ∙ looked_at r b.present;
+      known = ap (λ (c : FrontedRouter). known_now r c.present) (caught_up_is notes w telling) ∙ looked_at r b.present;
     }
 
 -- ---- all that a plane does
 
-goes_on : (w : Way) (ds : List Doing) (f : Fronted) (b : Both) → Along f b → AreRight f.plane (fronted f ds).0
+goes_on : (w : Way) (ds : List Doing) (f : Fronted) (b : FrontedRouter) → Along f b → AreRight f.plane (fronted f ds).0
     → (let ran : List Outcome × Plane = acted f.plane (fronted f ds).0 in
-    let alone : List Outcome × Both = again_ran b (events_in ds) in
+    let alone : List Outcome × FrontedRouter = again_ran b (events_in ds) in
     (ran.0 ≡ alone.0) × (kept_up w (ran.1).split ≡ alone.1.state)
     × (known_now alone.1.state (fronted f ds).1 ≡ known_now alone.1.state alone.1.present))
 unfolding fronted acted again_ran fronted_after fronted_told
@@ -428,7 +428,7 @@ plane_behind_front_is_sound c limit hosts acts w e right =
 
 -- ---- any events may come to one
 
-plain_right : (f : Fronted) (b : Both) → Along f b → (e : Event) → IsRight f.plane.split (act_given f (plain_act f.plane e))
+plain_right : (f : Fronted) (b : FrontedRouter) → Along f b → (e : Event) → IsRight f.plane.split (act_given f (plain_act f.plane e))
 unfolding act_given
 plain_right f b along e = by_whose (is_the_routers f (plain_act f.plane e))
   where
@@ -445,11 +445,11 @@ plain_right f b along e = by_whose (is_the_routers f (plain_act f.plane e))
     }
 
     by_whose : (own : Bool) → IsRight f.plane.split
-        (cond own (with_event (plain_act f.plane e) (event_given (both_before f (plain_act f.plane e)) e)) (plain_act f.plane e))
-    by_whose true = plain_with (event_given (both_before f (plain_act f.plane e)) e)
+        (cond own (with_event (plain_act f.plane e) (event_given (before_event f (plain_act f.plane e)) e)) (plain_act f.plane e))
+    by_whose true = plain_with (event_given (before_event f (plain_act f.plane e)) e)
     by_whose false = plain_with e
 
-plain_go : (es : List Event) (f : Fronted) (b : Both) → Along f b → AreRight f.plane (fronted f (plain_behind f es)).0
+plain_go : (es : List Event) (f : Fronted) (b : FrontedRouter) → Along f b → AreRight f.plane (fronted f (plain_behind f es)).0
 unfolding plain_behind fronted fronted_after
 plain_go [] f b along = tt
 plain_go (e ∷ es) f b along =

@@ -9,7 +9,7 @@ use Rattle.law_streams.{specs.{Copies.happens, Joins.is_time}, proofs.{Made.step
 use Rattle.law_states.{specs.{Reload.config_of, ReloadLaws.{is_near_by, next_query_is_near}, Reloading.reload, History.{AreAccepted, Given, state_given}}, proofs.{Ground.reload_is_under, Queriers.next_query_is_near_anew, Rest.reload_leaves_rest, Histories.led_states_rest, NearStates.led_queries_are_near, NextQueries.{kept_near, next_query_stays_near}}}
 use Rattle.law_plane.{specs.Keeping.{keep, kept_until}, proofs.Keeps.{keep_by, keep_is_at_rest}}
 use Rattle.igmp_older.{specs.Open.runs_until}
-use Rattle.law_hosts.{specs.{Staying.KeepsTimer, Members.{ForAnswer, ForQuery, MemberKeepsItsRecord, Waiting, after_time, answers, answers_before, answers_still, asked_by, in_time, is_answered, leaves, margin, may_be_given, may_happen, may_reload, next_general, response, waiting_after, waiting_given}}, proofs.{Stays.event_keeps_timer, Done.not_done, Queries.{Queries, done_next, leaves_next, next_in, time_keeps, time_queries}, Reloads.{Reloaded, reload_leaves}, Reports.done_end}}
+use Rattle.law_hosts.{specs.{Staying.KeepsTimer, Members.{ForAnswer, ForQuery, MemberKeepsItsRecord, Waiting, after_time, answers, answers_before, answers_still, asked_by, in_time, is_answered, leaves, margin, may_be_given, may_happen, may_reload, next_general, response_interval, waiting_after, waiting_given}}, proofs.{Stays.event_keeps_timer, Done.not_done, Queries.{Queries, done_next, leaves_next, next_in, time_keeps, time_queries}, Reloads.{Reloaded, reload_leaves}, Reports.done_end}}
 
 -- ---- numbers
 
@@ -45,17 +45,17 @@ some_of (Some n) e = (n, refl)
 
 module _ (i : ℕ) (s : State) (next : ℕ) where
   record InForce : Type 0 where
-    values : group_membership_interval s i ≡ s.settings.robustness * (1000 * s.settings.query_interval) + response s.settings
+    values : group_membership_interval s i ≡ s.settings.robustness * (1000 * s.settings.query_interval) + response_interval s.settings
     soon : next ≤ s.present + 1000 * s.settings.query_interval
 
   abbrev membership : Option QuerierRow → ℕ
   membership o =
       option_map_or (λ (q : QuerierRow). q.robustness) o s.settings.robustness
       * (1000 * option_map_or (λ (q : QuerierRow). q.query_interval) o s.settings.query_interval)
-      + response s.settings
+      + response_interval s.settings
 
   by_role : (q : QuerierRow) (role : QuerierRole) → next_query role ≡ Some next → is_near_by s.present s.settings q role ≡ true
-      → (membership (Some q) ≡ s.settings.robustness * (1000 * s.settings.query_interval) + response s.settings)
+      → (membership (Some q) ≡ s.settings.robustness * (1000 * s.settings.query_interval) + response_interval s.settings)
       × (next ≤ s.present + 1000 * s.settings.query_interval)
   by_role q (QuerierRole.NonQuerier end) is near = absurd cc
   by_role q (QuerierRole.Querier x left) is near =
@@ -65,10 +65,10 @@ module _ (i : ℕ) (s : State) (next : ℕ) where
       let ends = second_so (q.query_interval == s.settings.query_interval) _ rest in
       let soon : x ≤ s.present + 1000 * q.query_interval = at_most _ _ (first_so (nat_le x (s.present + 1000 * q.query_interval)) _ ends) in
       let same : x ≡ next = cc is in
-      (λ j. robust j * (1000 * interval j) + response s.settings, omega (arith, soon, same, interval))
+      (λ j. robust j * (1000 * interval j) + response_interval s.settings, omega (arith, soon, same, interval))
 
   by_row : (o : Option QuerierRow) → row_at s.queriers (iface_key i) ≡ o → next_in o ≡ Some next → next_query_is_near s ≡ true
-      → (membership o ≡ s.settings.robustness * (1000 * s.settings.query_interval) + response s.settings)
+      → (membership o ≡ s.settings.robustness * (1000 * s.settings.query_interval) + response_interval s.settings)
       × (next ≤ s.present + 1000 * s.settings.query_interval)
   unfolding next_query_is_near
   by_row None at is near = absurd cc
@@ -140,12 +140,12 @@ module _ (d i g : ℕ) where
 
       asked_held : (next lasts : ℕ) (b : Bool) → nat_le next m ≡ b → Held s.settings (ForQuery lasts) s → next_general s i ≡ Some next
           → runs_until (next + lasts) (group_end s i g) ≡ true
-          → in_time m (cond b (ForAnswer (next + (response s.settings + d))) (ForQuery lasts)) ≡ true
-          → Held s.settings (cond b (ForAnswer (next + (response s.settings + d))) (ForQuery lasts)) then
+          → in_time m (cond b (ForAnswer (next + (response_interval s.settings + d))) (ForQuery lasts)) ≡ true
+          → Held s.settings (cond b (ForAnswer (next + (response_interval s.settings + d))) (ForQuery lasts)) then
       asked_held next lasts true due h is runs timely =
-          let due : ℕ = next + (response s.settings + d) in
+          let due : ℕ = next + (response_interval s.settings + d) in
           let by : m ≤ due = at_most m due timely in
-          let before : response s.settings + d < lasts = less (response s.settings + d) lasts h.still in
+          let before : response_interval s.settings + d < lasts = less (response_interval s.settings + d) lasts h.still in
           let later = some_next next is in
           record {
             next = later.0;
@@ -203,7 +203,7 @@ module _ (d i g : ℕ) where
           times s.settings.robustness (1000 * s.settings.query_interval) some in
           reaches next (1000 * s.settings.query_interval) s.present
           ((s.settings.robustness - 1) * (1000 * s.settings.query_interval))
-          (s.settings.robustness * (1000 * s.settings.query_interval)) (response s.settings) (group_membership_interval s i) now.soon more now.values
+          (s.settings.robustness * (1000 * s.settings.query_interval)) (response_interval s.settings) (group_membership_interval s i) now.soon more now.values
         where
           reaches : (next q p a b r f : ℕ) → next ≤ p + q → a + q ≡ b → f ≡ b + r → nat_le (next + (a + r)) (p + f) ≡ true
           reaches next q p a b r f soon more is = grind (arith, nat_tests, soon, more, is)

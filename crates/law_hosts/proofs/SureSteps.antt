@@ -4,7 +4,7 @@ use Rattle.pim_types.{specs.{Keys.{group_in, iface_in, is_on, same_key, star_key
 use Rattle.pim_model.{specs.{Querier.group_end, State.State, Step.step, Tables.{Table, has_row, put, row_at}}}
 use Rattle.law_settled.{proofs.{ListLaws.{each_both, each_more}, FineTables.{Fine, fine_dropped, fine_more}, RisingKeys.{sorted_of_up, up_of_sorted, up_put}}, specs.Ready.IsSettled}
 use Rattle.law_streams.{proofs.Climbs.swapped}
-use Rattle.igmp_older.{specs.{Joined.{Both, bytes_given, event_given, joined, joined_step, kind_given, known_after, known_if, noted_if, older_of, present_end, rows_of}, Modes.{heard, is_report, row_by, runs}, Naming.groups_named, Open.runs_until, Presence.{Present, doubted, entry_after, forgotten, has_record, has_room, hosts_on, left, looked, noted_of, report_noted, row_after, timers_at}, Translation.{Translation, packet_given, translation}, declared.{mode.PresentRow.PresentRow, older.{Older.Older, OlderKind.OlderKind}}}, proofs.TakenLaws.givable}
+use Rattle.igmp_older.{specs.{Joined.{FrontedRouter, bytes_given, event_given, joined, joined_step, kind_given, known_after, known_if, noted_if, older_of, present_end, rows_of}, Modes.{heard, is_report, row_by, runs}, Naming.groups_named, Open.runs_until, Presence.{Present, doubted, entry_after, forgotten, has_record, has_room, hosts_on, left, looked, noted_of, report_noted, row_after, timers_at}, Translation.{Translation, packet_given, translation}, declared.{mode.PresentRow.PresentRow, older.{Older.Older, OlderKind.OlderKind}}}, proofs.TakenLaws.givable}
 use Rattle.law_hosts.{specs.Sure.{IsSure, IsSureRow, timers_of}, proofs.{Begins.older_begins, Held.still_settled, Named.{KindLeaves, Off, given_names, older_names}, Stays.event_keeps_timer, Sure.{Row, advance_leaves, all_doubted, all_stay, by_kind, looked_sure, none_at, off_by, only_put, stays_so, sure_closed}}}
 
 -- ---- a packet
@@ -63,7 +63,7 @@ module _ (s : State) (e : Event) (rest : IsSettled s) (j : IfaceId) (bytes : Lis
 
 -- ---- any event
 
-module _ (b : Both) (w : ℕ) (rest : IsSettled b.state) (f : Fine (IsSureRow b.state) b.present.rows) where
+module _ (b : FrontedRouter) (w : ℕ) (rest : IsSettled b.state) (f : Fine (IsSureRow b.state) b.present.rows) where
   abbrev event : EventKind → Event
   event kind = record { draw = w; kind = kind }
 
@@ -151,13 +151,13 @@ module _ (b : Both) (w : ℕ) (rest : IsSettled b.state) (f : Fine (IsSureRow b.
   unfolding joined_step known_if
   step_rows kind = grind (arith, done_rows, all_stay)
 
-pub step_is_sure : (b : Both) (e : Event) → IsSettled b.state → IsSure b → IsSure (joined_step b e).1
+pub step_is_sure : (b : FrontedRouter) (e : Event) → IsSettled b.state → IsSure b → IsSure (joined_step b e).1
 unfolding joined_step
 step_is_sure b e rest sure =
     let after = step_rows b e.draw rest (record { up = up_of_sorted b.present.rows sure.rises; each = sure.rows }) e.kind in
     record { rises = sorted_of_up (joined_step b e).1.present.rows after.up; rows = after.each }
 
-pub run_is_sure : (b : Both) (es : List Event) → IsSettled b.state → IsSure b → IsSure (joined b es).1
+pub run_is_sure : (b : FrontedRouter) (es : List Event) → IsSettled b.state → IsSure b → IsSure (joined b es).1
 unfolding joined
 run_is_sure b [] rest sure = sure
 run_is_sure b (e ∷ es) rest sure = run_is_sure (joined_step b e).1 es (still_settled b e rest) (step_is_sure b e rest sure)
@@ -204,9 +204,9 @@ module _ (s : State) (e : Event) (rest : IsSettled s) (m : ℕ) (is : e.kind ≡
   all_rows [] f = refl
   all_rows (x ∷ xs) f = one_row x f.0 (filter_map (entry_after groups m) xs) (filter test xs) (all_rows xs f.1)
 
-pub time_forgets : (b : Both) (w m : ℕ) → IsSettled b.state → IsSure b
+pub time_forgets : (b : FrontedRouter) (w m : ℕ) → IsSettled b.state → IsSure b
     → (let e : Event = record { draw = w; kind = EventKind.Advance m } in
-    let after : Both = (joined_step b e).1 in
+    let after : FrontedRouter = (joined_step b e).1 in
     (joined_step b e).0.answer ≡ Ok Verdict.Done
     → map timers_of after.present.rows ≡ map timers_of (forgotten after.state.group_records m b.present).rows)
 unfolding joined_step known_if known_after looked forgotten event_given kind_given

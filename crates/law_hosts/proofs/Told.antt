@@ -6,11 +6,11 @@ use Rattle.law_settled.{specs.Laws.ends_after}
 use Rattle.law_events.{specs.Rest.IsAtRest}
 use Rattle.law_plane.{specs.{Offload.dropped, Split.{Notice, advance_to}}, proofs.{Ends.{AreLate, Ends, set_end}, Passes.{Passed, ahead_before, late_before, time_stepped}}}
 use Rattle.law_states.{specs.Kept.{Way, is_kept, told_notes}, proofs.{KeptOrders.ToldEach, NearEnds.EndBy}}
-use Rattle.igmp_older.{specs.{Joined.{Both}, Presence.{Present, looked}}}
-use Rattle.law_hosts.{specs.Behind.{advanced_to, both_told}, proofs.{Given.time_known, Looks.{looked_once, same_lasts}}}
+use Rattle.igmp_older.{specs.{Joined.{FrontedRouter}, Presence.{Present, looked}}}
+use Rattle.law_hosts.{specs.Behind.{advanced_to, after_notes}, proofs.{Given.time_known, Looks.{looked_once, same_lasts}}}
 
-pub told_state : (w : Way) (ns : List Notice) (b : Both) → (both_told w b ns).state ≡ told_notes w b.state ns
-unfolding both_told told_notes
+pub told_state : (w : Way) (ns : List Notice) (b : FrontedRouter) → (after_notes w b ns).state ≡ told_notes w b.state ns
+unfolding after_notes told_notes
 told_state w [] b = refl
 told_state w (n ∷ ns) b = told_state w ns _
 
@@ -22,7 +22,7 @@ module _ (core : State) (quiet : IsAtRest core) (now : ℕ) (w : Way) (early : n
 
   -- ---- time that passes quietly
 
-  module _ (f : Ends) (b : Both) (m at : ℕ) (is : Passed core quiet f at b.state) (within : at ≤ m) (late : AreLate now f) (until : m ≤ now)
+  module _ (f : Ends) (b : FrontedRouter) (m at : ℕ) (is : Passed core quiet f at b.state) (within : at ≤ m) (late : AreLate now f) (until : m ≤ now)
     where
       steps : step b.state (advance_to m) ≡ dropped (record b.state { present = m })
       steps =
@@ -45,9 +45,9 @@ module _ (core : State) (quiet : IsAtRest core) (now : ℕ) (w : Way) (early : n
 
   -- ---- notes
 
-  pub told_at_last : (ns : List Notice) (f : Ends) (b : Both) → ToldEach core quiet now w early ahead near f b.state ns
-      → AtLast (both_told w b ns).present ≡ AtLast b.present
-  unfolding both_told
+  pub told_at_last : (ns : List Notice) (f : Ends) (b : FrontedRouter) → ToldEach core quiet now w early ahead near f b.state ns
+      → AtLast (after_notes w b ns).present ≡ AtLast b.present
+  unfolding after_notes
   told_at_last [] f b each = refl
   told_at_last (n ∷ ns) f b each =
       told_at_last ns (set_end f n.source (n.moment + keepalive_period)) _ each.1 ∙ once (is_kept w b.state n) refl

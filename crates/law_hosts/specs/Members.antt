@@ -9,18 +9,18 @@ use Rattle.law_states.{specs.History.{AreAccepted, Given, IsLedTo, state_given}}
 -- ---- intervals, in ms
 
 -- [Query Response Interval] (8.3)
-abbrev pub response : Settings → ℕ
-response t = 100 * t.query_response_interval
+abbrev pub response_interval : Settings → ℕ
+response_interval t = 100 * t.query_response_interval
 
 -- [Group Membership Interval] (8.4) less [Query Interval] (8.2). After a report the next general query leaves within
 -- [Query Interval], so that the record of the group outlasts it by so much at least.
 abbrev pub margin : Settings → ℕ
-margin t = (t.robustness - 1) * (1000 * t.query_interval) + response t
+margin t = (t.robustness - 1) * (1000 * t.query_interval) + response_interval t
 
 -- An answer that comes within [Query Response Interval] and a delivery time d of its query comes before a record is over
 -- that outlasts the query by so much.
 abbrev pub answers_before : ℕ → Settings → ℕ → Bool
-answers_before d t lasts = nat_lt (response t + d) lasts
+answers_before d t lasts = nat_lt (response_interval t + d) lasts
 
 -- ---- queries and answers
 
@@ -39,7 +39,7 @@ pub data Waiting : Type 0 where
 abbrev pub asked_by : ℕ → Settings → ℕ → ℕ → Option ℕ → Waiting
 asked_by d t moment lasts None = ForQuery lasts
 asked_by d t moment lasts (Some next) =
-    if nat_le next moment then ForAnswer (next + (response t + d)) else ForQuery lasts
+    if nat_le next moment then ForAnswer (next + (response_interval t + d)) else ForQuery lasts
 
 abbrev pub after_time : ℕ → ℕ → State → ℕ → Waiting → Waiting
 after_time d i s moment (ForQuery lasts) = asked_by d s.settings moment lasts (next_general s i)

@@ -3,7 +3,7 @@ use Rattle.std.{proofs.{Common.{◌≡◌, ◌∙◌, ⊎_elim, ℕ, ◌+◌, �
 use Rattle.pim_types.{specs.{Keys.{group_in, same_key, source_in, source_key}, declared.{config.Config.Config, event.Event.Event, fact.Key.Key}}, proofs.Keys.{equal_keys, same_key_same}}
 use Rattle.law_events.{specs.Rest.IsAtRest}
 use Rattle.law_settled.{specs.Ready.IsSettled, proofs.{ListLaws.{each_filter, each_more, either}, StepLaws.kept_by_run}}
-use Rattle.law_states.{specs.{Reload.config_of, PlacedLaws.AreApart, Placing.{Places, are_places, gone_on, in_order, in_place, index_of, moved, number_at, old_order, placed_under, reload_by, resubnetted, to_order, without_neighbours}, Reloading.{asserts_under, down_event, hellos_anew, is_won_before, reload, removals, replaced, under}, History.{AreAccepted, Given, greatest_count, greatest_limit, state_given}, HistoryLaws.CountedStayWithinTheGreatest}, proofs.{Apart.{at_high, at_low, places_are_apart, to_at, value_low}, Moved.{moved_is_under, placed_reload_is_under}, Rows.each_placed, Ups.{as_many, begun, begun_count, begun_rests, each_low, each_once, goes_low, gone, kept, new, old, order, renewed}, Ground.reload_is_under, Rest.reload_leaves_rest, Led.{Led, keep_led, opening_led, placed_led, reload_led, step_led}, Limits.facts_stay_within_the_greatest, Onto.{GoesTo, some_goes}}}
+use Rattle.law_states.{specs.{Reload.config_of, PlacedLaws.AreApart, Placing.{Places, are_places, gone_on, in_order, placed_key, index_of, moved, number_at, old_order, placed_under, reload_by, resubnetted, to_order, without_neighbours}, Reloading.{asserts_under, down_event, hellos_anew, is_won_before, reload, removals, replaced, under}, History.{AreAccepted, Given, greatest_count, greatest_limit, state_given}, HistoryLaws.CountedStayWithinTheGreatest}, proofs.{Apart.{at_high, at_low, places_are_apart, to_at, value_low}, Moved.{moved_is_under, placed_reload_is_under}, Rows.each_placed, Ups.{as_many, begun, begun_count, begun_rests, each_low, each_once, goes_low, gone, kept, new, old, order, renewed}, Ground.reload_is_under, Rest.reload_leaves_rest, Led.{Led, keep_led, opening_led, placed_led, reload_led, step_led}, Limits.facts_stay_within_the_greatest, Onto.{GoesTo, some_goes}}}
 use Rattle.pim_model.{specs.{Downstream.is_named, Full.counted, Limits.config_test, Registers.keepalive_period, State.{addressing_of, State, iface_count, opening}, Step.{rps_replaced, state_after, step}, Tables.{has_row}}}
 use Rattle.law_streams.{specs.Bounded.counted_beside_asserts, proofs.{Few.{Covered, Holds, Named, Spread, asserts_few, configured_some, holds_on, opening_holds}, Keyed.{Kept, kept_sources, settled_kept, under_put}, KeyedEvents.row_under}}
 use Rattle.law_plane.{specs.Keeping.{keep, kept_until}, proofs.Keeps.{keep_by, keep_is_at_rest, running, running_there}}
@@ -36,15 +36,15 @@ count_at_least (Given.Kept g src m ∷ later) count = count_at_least later count
 
 -- keys at other places
 named_there : (places : List ℕ) (k : Key) (ks : List Key) → is_named ks k ≡ true
-    → is_named (map (in_place places) ks) (in_place places k) ≡ true
+    → is_named (map (placed_key places) ks) (placed_key places k) ≡ true
 unfolding is_named
 named_there places k [] e = cc
 named_there places k (q ∷ ks) e =
     either (same_key k q) (list_any (same_key k) ks)
-    (λ same. or_left (same_key (in_place places k) (in_place places q)) _
-    (ap (λ (x : Key). same_key (in_place places k) (in_place places x)) (sym (equal_keys k q same))
-    ∙ same_key_same (in_place places k)))
-    (λ later. or_right (same_key (in_place places k) (in_place places q)) _ (named_there places k ks later)) e
+    (λ same. or_left (same_key (placed_key places k) (placed_key places q)) _
+    (ap (λ (x : Key). same_key (placed_key places k) (placed_key places x)) (sym (equal_keys k q same))
+    ∙ same_key_same (placed_key places k)))
+    (λ later. or_right (same_key (placed_key places k) (placed_key places q)) _ (named_there places k ks later)) e
 
 module _ (n limit : ℕ) (some : 1 ≤ n) where
   abbrev Few : State → Type 0
@@ -97,24 +97,24 @@ module _ (n limit : ℕ) (some : 1 ≤ n) where
   -- ---- a reload by a map of places
 
   module _ (places : List ℕ) (apart : AreApart places) (low : (i : ℕ) → i < n → number_at places i < n) where
-    spread_there : (ks : List Key) (k : Key) → Spread n ks k → Spread n (map (in_place places) ks) k
+    spread_there : (ks : List Key) (k : Key) → Spread n ks k → Spread n (map (placed_key places) ks) k
     spread_there ks k h i less =
         let from : GoesTo places n i = some_goes places n apart low i less in
-        subst (λ (j : ℕ). is_named (map (in_place places) ks) (source_key j (group_in k) (source_in k)) ≡ true) from.2
+        subst (λ (j : ℕ). is_named (map (placed_key places) ks) (source_key j (group_in k) (source_in k)) ≡ true) from.2
         (named_there places (source_key from.0 (group_in k) (source_in k)) ks (h from.0 from.1))
 
     there_few : (s : State) (c : Config) (parted : List ℕ) (ks : List Key) → Kept (Named n ks) (Spread n ks) s
-        → Kept (Named n (map (in_place places) ks)) (Spread n (map (in_place places) ks))
+        → Kept (Named n (map (placed_key places) ks)) (Spread n (map (placed_key places) ks))
         (without_neighbours parted (placed_under s places c))
     unfolding without_neighbours placed_under
     there_few s c parted ks f = record {
-      asserts = each_placed places (λ e. Named n ks e.0) (λ e. Named n (map (in_place places) ks) e.0)
+      asserts = each_placed places (λ e. Named n ks e.0) (λ e. Named n (map (placed_key places) ks) e.0)
           (λ e h. named_there places e.0 ks h) s.asserts f.asserts;
-      downstream = each_placed places (λ e. Named n ks e.0) (λ e. Named n (map (in_place places) ks) e.0)
+      downstream = each_placed places (λ e. Named n ks e.0) (λ e. Named n (map (placed_key places) ks) e.0)
           (λ e h. named_there places e.0 ks h) s.downstream f.downstream;
-      groups = each_placed places (λ e. Named n ks e.0) (λ e. Named n (map (in_place places) ks) e.0)
+      groups = each_placed places (λ e. Named n ks e.0) (λ e. Named n (map (placed_key places) ks) e.0)
           (λ e h. named_there places e.0 ks h) s.group_records f.groups;
-      sources = each_more (λ e. Spread n ks e.0) (λ e. Spread n (map (in_place places) ks) e.0) (λ e h. spread_there ks e.0 h)
+      sources = each_more (λ e. Spread n ks e.0) (λ e. Spread n (map (placed_key places) ks) e.0) (λ e h. spread_there ks e.0 h)
           s.sources f.sources;
     }
 
@@ -123,8 +123,8 @@ module _ (n limit : ℕ) (some : 1 ≤ n) where
     unfolding moved
     moved_few s c parted w f =
         let t : State = placed_under s places c in
-        let ks : List Key = map (in_place places) f.keys in
-        let long : length ks ≡ length f.keys = length-map f.keys (in_place places) in
+        let ks : List Key = map (placed_key places) f.keys in
+        let long : length ks ≡ length f.keys = length-map f.keys (placed_key places) in
         let short : length f.keys ≤ n * limit = f.short in
         record {
           keys = ks;

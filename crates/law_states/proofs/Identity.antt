@@ -4,7 +4,7 @@ use Rattle.pim_types.{specs.{Keys.{iface_in, key_cmp}, declared.{config.Config.C
 use Rattle.pim_model.{specs.{Firing.settled, Limits.config_test, State.{addressing_of, State, iface_count, settings_of}, Step.ran, Tables.{Table, below, drop_where, is_among, keys_in, put}}}
 use Rattle.law_settled.{specs.Ready.{IsOrdered, Rises}}
 use Rattle.law_events.{specs.Rest.IsAtRest}
-use Rattle.law_states.{specs.{Reload.{config_of, reconfigured, reloaded}, Reloading.{down_event, goodbyes, reload, removals, replaced, sent_by}, PlacedLaws.IdentityPlacesAreReload, Placing.{each_to_itself, gone_on, in_order, in_place, index_of, kept_places, leaving_on, moved, number_at, placed, placed_under, put_placed, reload_by, resubnetted, without_neighbours}}, proofs.{Reloads.same_configuration_changes_nothing, Ground.reload_is_under, Rest.reload_leaves_rest, Numbers.{count_is, in_own_order, kept_are, new_is, number_below, old_is, to_is}}}
+use Rattle.law_states.{specs.{Reload.{config_of, reconfigured, reloaded}, Reloading.{down_event, goodbyes, reload, removals, replaced, sent_by}, PlacedLaws.IdentityPlacesAreReload, Placing.{each_to_itself, gone_on, in_order, placed_key, index_of, kept_places, leaving_on, moved, number_at, placed, placed_under, put_placed, reload_by, resubnetted, without_neighbours}}, proofs.{Reloads.same_configuration_changes_nothing, Ground.reload_is_under, Rest.reload_leaves_rest, Numbers.{count_is, in_own_order, kept_are, new_is, number_below, old_is, to_is}}}
 
 -- ---- rows that stay at their places
 
@@ -30,7 +30,7 @@ module _ {R : Type 0} where
   before [] e rest h = tt
   before (x ∷ front) e rest h = (at_place (λ q. key_cmp x.0 q ≡ Ordering.Less) front e rest h.0, before front e rest h.1)
 
-in_own_place : (k : ℕ) (q : Key) → in_place (below k) q ≡ q
+in_own_place : (k : ℕ) (q : Key) → placed_key (below k) q ≡ q
 in_own_place k q = λ j. record q { iface = record { number = number_below k (iface_in q) j } }
 
 module _ {R : Type 0} (k : ℕ) where

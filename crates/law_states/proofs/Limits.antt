@@ -6,7 +6,7 @@ use Rattle.law_settled.{proofs.{RisingKeys.up_of_sorted, UnchangedLaws.full_or_t
 use Rattle.pim_model.{specs.{declared.accepted.Accepted.Accepted, Full.{counted, is_full}, Judging.{Judged, judged}, State.{addressing_of, State, opening, settings_of}, Registers.keepalive_period, Sets.spt_bit, Step.{concluded, ran, rps_replaced, state_after, step, taken, taken_unless_full}, Tables.{Table, has_row, is_among, put}}}
 use Rattle.law_streams.{specs.Bounded.{AddsAtMost, AddsNone, counted_beside_asserts, needed_by, needed_of}, proofs.{Bounded.{adds_what_is_needed, has_room}, Counting.{one_more, put_there, shorter_without}, Fewer.settled_none, Within.room}}
 use Rattle.law_plane.{specs.Keeping.{keep, keepalive_end, kept_until}, proofs.Keeps.{keep_by, running, running_there}}
-use Rattle.law_states.{specs.{Reload.config_of, Reloading.{down_event, hellos_anew, reload, removals, replaced, under}, Placing.{Places, gone_on, in_order, in_place, moved, placed, placed_under, put_placed, reload_by, resubnetted, to_order, without_neighbours}, History.{AreAccepted, Given, greatest_limit, state_given}, HistoryLaws.FactsStayWithinTheGreatest}, proofs.{Ups.{begun, begun_rests, gone, kept, new, old, order, renewed}, Led.{Led, is_led, keep_led, opening_led, placed_led, reload_led, step_led}}}
+use Rattle.law_states.{specs.{Reload.config_of, Reloading.{down_event, hellos_anew, reload, removals, replaced, under}, Placing.{Places, gone_on, in_order, placed_key, moved, placed, placed_under, put_placed, reload_by, resubnetted, to_order, without_neighbours}, History.{AreAccepted, Given, greatest_limit, state_given}, HistoryLaws.FactsStayWithinTheGreatest}, proofs.{Ups.{begun, begun_rests, gone, kept, new, old, order, renewed}, Led.{Led, is_led, keep_led, opening_led, placed_led, reload_led, step_led}}}
 
 -- the facts are within a limit that is no less than the state's own
 record IsUnder (limit : ℕ) (s : State) : Type 0 where
@@ -110,8 +110,8 @@ reload_under limit s c w f rest =
 put_long : {R : Type 0} (places : List ℕ) (t rows : Table R) → length (put_placed places t rows) ≤ length t + length rows
 put_long places t [] = omega arith
 put_long places t (e ∷ rows) =
-    let one : length (put t (in_place places e.0) e.1) ≤ length t + 1 = one_more (in_place places e.0) e.1 t in
-    let rest = put_long places (put t (in_place places e.0) e.1) rows in
+    let one : length (put t (placed_key places e.0) e.1) ≤ length t + 1 = one_more (placed_key places e.0) e.1 t in
+    let rest = put_long places (put t (placed_key places e.0) e.1) rows in
     omega (arith, one, rest)
 
 placed_long : {R : Type 0} (places : List ℕ) (rows : Table R) → length (placed places rows) ≤ length rows

@@ -4,7 +4,7 @@ use Rattle.pim_types.{specs.{declared.{config.Config.Config, fact.{Key.Key, Neig
 use Rattle.pim_model.{specs.{State.{State, settings_of}, Tables.{Table, drop_where, has_row, is_among, row_at}}}
 use Rattle.law_settled.{proofs.{RowLaws.{has_row_dropped, row_kept}, Unsettled.{Unsettled, settling_leaves}}}
 use Rattle.law_events.{proofs.Configured.ground}
-use Rattle.law_states.{specs.{Reload.config_of, PlacedLaws.{NeighboursStayOrGo, PlacedReloadIsUnder}, Placing.{gone_on, in_order, in_place, kept_places, moved, new_order, old_order, placed_under, reload_by, resubnetted, to_order, without_neighbours}}, proofs.{Accepted.{config_by, settled_ground}, Rows.row_goes}}
+use Rattle.law_states.{specs.{Reload.config_of, PlacedLaws.{NeighboursStayOrGo, PlacedReloadIsUnder}, Placing.{gone_on, in_order, placed_key, kept_places, moved, new_order, old_order, placed_under, reload_by, resubnetted, to_order, without_neighbours}}, proofs.{Accepted.{config_by, settled_ground}, Rows.row_goes}}
 
 -- ---- neighbours
 
@@ -29,10 +29,10 @@ dropped_or_kept {R = R} test k t = by (test k) refl
 pub neighbours_stay_or_go : NeighboursStayOrGo
 unfolding moved without_neighbours placed_under
 neighbours_stay_or_go s places c apart w k once h =
-    ap (λ (u : Unsettled). row_at u.neighbours (in_place places k))
+    ap (λ (u : Unsettled). row_at u.neighbours (placed_key places k))
     (settling_leaves (placed_under s places c) (without_neighbours apart (placed_under s places c), []) w)
-    ∙ dropped_or_kept (λ q. is_among (iface_in q) apart) (in_place places k) (placed_under s places c).neighbours
-    ∙ ap (λ (o : Option NeighbourRow). cond (is_among (iface_in (in_place places k)) apart) None o)
+    ∙ dropped_or_kept (λ q. is_among (iface_in q) apart) (placed_key places k) (placed_under s places c).neighbours
+    ∙ ap (λ (o : Option NeighbourRow). cond (is_among (iface_in (placed_key places k)) apart) None o)
     (row_goes places s.neighbours k once h.neighbours)
 
 -- ---- the configuration

@@ -4,7 +4,7 @@ use Rattle.pim_types.{specs.{declared.{config.Config.Config, event.Event.Event, 
 use Rattle.pim_model.{specs.{declared.accepted.Accepted.Accepted, Limits.config_test, State.{addressing_of, State, is_up, settings_of}, Step.{change, ran, rps_replaced, state_after}, Tables.{is_among}}}
 use Rattle.law_settled.{specs.{Laws.{is_querier_entry}, Ready.IsSettled}, proofs.{Changes.change_fine, Parts.{Part, Interfaces, Neighbours, Queriers, GroupRecords, SourceRecords, GroupRepeats, SourceRepeats, Sendings, Downstreams, Asserts, JoinTimers, OverrideTimers, Sources, Registers}, FineStates.{Anyhow, FineAt, Good, IsFine, without_rows}, SettledStates.{fine_is_settled, settled_is_fine}, Steps.later_is_late}}
 use Rattle.law_events.{specs.Rest.IsAtRest, proofs.Rest.run_is_at_rest}
-use Rattle.law_states.{specs.{Reload.{IsSetting, config_of}, Reloading.{asserts_under, down_event, hellos_anew, is_won_before, queriers_under, replaced, under}, PlacedLaws.PlacedReloadLeavesRest, Placing.{gone_on, in_order, in_place, kept_places, moved, new_order, old_order, placed_under, reload_by, resubnetted, to_order, without_neighbours}}, proofs.{Settings.settled_under, Reloads.{accepted_setting, follows_at_rest}, Queriers.queriers_settled, WonAsserts.asserts_settled, Rows.{fine_placed, has_placed}}}
+use Rattle.law_states.{specs.{Reload.{IsSetting, config_of}, Reloading.{asserts_under, down_event, hellos_anew, is_won_before, queriers_under, replaced, under}, PlacedLaws.PlacedReloadLeavesRest, Placing.{gone_on, in_order, placed_key, kept_places, moved, new_order, old_order, placed_under, reload_by, resubnetted, to_order, without_neighbours}}, proofs.{Settings.settled_under, Reloads.{accepted_setting, follows_at_rest}, Queriers.queriers_settled, WonAsserts.asserts_settled, Rows.{fine_placed, has_placed}}}
 
 module _ (s : State) (places : List ℕ) (c : Config) (f : IsSettled s) (setting : IsSetting (settings_of c)) where
   abbrev late : ℕ → Bool
@@ -14,34 +14,34 @@ module _ (s : State) (places : List ℕ) (c : Config) (f : IsSettled s) (setting
   there = placed_under s places c
 
   -- an interface that is up is up at its place
-  up_there : (k : Key) → is_up s (iface_in k) ≡ true → is_up there (iface_in (in_place places k)) ≡ true
+  up_there : (k : Key) → is_up s (iface_in k) ≡ true → is_up there (iface_in (placed_key places k)) ≡ true
   unfolding placed_under
   up_there k up = has_placed places (iface_key (iface_in k)) s.interfaces up
 
   -- keys of a kind stay of that kind
   star_there : (k : Key) → same_key (star_key (iface_in k) (group_in k)) k ≡ true
-      → same_key (star_key (iface_in (in_place places k)) (group_in k)) (in_place places k) ≡ true
+      → same_key (star_key (iface_in (placed_key places k)) (group_in k)) (placed_key places k) ≡ true
   star_there k e =
-      subst (λ (q : Key). same_key (in_place places (star_key (iface_in k) (group_in k))) (in_place places q) ≡ true)
-      (equal_keys (star_key (iface_in k) (group_in k)) k e) (same_key_same (in_place places (star_key (iface_in k) (group_in k))))
+      subst (λ (q : Key). same_key (placed_key places (star_key (iface_in k) (group_in k))) (placed_key places q) ≡ true)
+      (equal_keys (star_key (iface_in k) (group_in k)) k e) (same_key_same (placed_key places (star_key (iface_in k) (group_in k))))
 
   source_there : (k : Key) → same_key (source_key (iface_in k) (group_in k) (source_in k)) k ≡ true
-      → same_key (source_key (iface_in (in_place places k)) (group_in k) (source_in k)) (in_place places k) ≡ true
+      → same_key (source_key (iface_in (placed_key places k)) (group_in k) (source_in k)) (placed_key places k) ≡ true
   source_there k e =
-      subst (λ (q : Key). same_key (in_place places (source_key (iface_in k) (group_in k) (source_in k))) (in_place places q) ≡ true)
+      subst (λ (q : Key). same_key (placed_key places (source_key (iface_in k) (group_in k) (source_in k))) (placed_key places q) ≡ true)
       (equal_keys (source_key (iface_in k) (group_in k) (source_in k)) k e)
-      (same_key_same (in_place places (source_key (iface_in k) (group_in k) (source_in k))))
+      (same_key_same (placed_key places (source_key (iface_in k) (group_in k) (source_in k))))
 
-  querier_there : (e : Key × QuerierRow) → is_querier_entry e ≡ true → is_querier_entry (in_place places e.0, e.1) ≡ true
+  querier_there : (e : Key × QuerierRow) → is_querier_entry e ≡ true → is_querier_entry (placed_key places e.0, e.1) ≡ true
   querier_there e is = by (same_key (iface_key (iface_in e.0)) e.0) refl is
     where
       by : (b : Bool) → same_key (iface_key (iface_in e.0)) e.0 ≡ b
           → (b && (nat_lt 0 (e.1).robustness && nat_lt 0 (e.1).query_interval)) ≡ true
-          → is_querier_entry (in_place places e.0, e.1) ≡ true
+          → is_querier_entry (placed_key places e.0, e.1) ≡ true
       by true same rest =
           ap (λ (x : Bool). x && (nat_lt 0 (e.1).robustness && nat_lt 0 (e.1).query_interval))
-          (subst (λ (q : Key). same_key (in_place places (iface_key (iface_in e.0))) (in_place places q) ≡ true)
-          (equal_keys (iface_key (iface_in e.0)) e.0 same) (same_key_same (in_place places (iface_key (iface_in e.0)))))
+          (subst (λ (q : Key). same_key (placed_key places (iface_key (iface_in e.0))) (placed_key places q) ≡ true)
+          (equal_keys (iface_key (iface_in e.0)) e.0 same) (same_key_same (placed_key places (iface_key (iface_in e.0)))))
           ∙ rest
       by false same rest = cc
 

@@ -6,7 +6,7 @@ use Rattle.pim_wire.{specs.{declared.hello.Hello.Hello as HelloValue, Values.{En
 use Rattle.pim_model.{specs.{declared.accepted.Accepted.Accepted, Asserts.{assert_forgotten, without_spt_bit}, Clearing.clear, Downstream.downstream_expired, Firing.{fire_row, fired, keepalive_due, settled}, Forwarding.source_here, Hellos.{hello_due, hello_period, hello_received, hello_triggered, hellos_triggered, is_generation_changed, neighbour_due, neighbour_replaced, neighbour_restarted, neighbours_replaced, triggered_hello_delay}, Neighbours.is_neighbour, Messages.Message, Querier.{general_query_due, group_record_due, group_repeat_due, other_querier_gone, querier_up, querying, querying_on, source_record_due, source_repeat_due, sources_sent}, Records.{with_members, with_repeats_of_rows}, Registers.{could_register, register_due, register_probe_time, register_stop_seen, registers_after_rps, settle_register, settle_registers, settled_register, state_after_stop, with_keepalive}, State.{State, interfaces_of, opening}, Step.{change, iface_down, iface_up, rps_replaced}, Tables.{Table, change_row, delay_in, drop_at, drop_where, has_row, is_among, keys_in, put, row_at, set_row}, Timers.register_end, Upstream.{join_timer_due, moved_join_timer, moved_override_timer, override_timer_due, upstream}, Writing.{hellos_paid, write_all}}}
 use Rattle.law_settled.{proofs.{ListLaws.{by_cond, each_filter, each_map, each_more, each_of_list, list_of_each}, RowLaws.each_put, SettlingLaws.{kept_by_clearing, kept_by_telling, kept_by_writing}, TurnLaws.kept_by_fold}}
 use Rattle.law_streams.{proofs.{LiesUnder.row_fires, EndSoon.no_later, Lasting.{Beside, Lasting, Still, Whole, assert_lasting, assert_whole, data_whole, pending_lasting, query_lasting, register_whole, report_lasting, seen_beside, still, to_me_whole}}}
-use Rattle.law_states.{specs.{Placing.{in_place, placed_under, without_neighbours}, Reloading.under, Ends.{HellosStayNear, IsKept, RegistersStayNear, ends_by, hellos_are_near, longest_stop, registers_are_near}, Kinds.{NeighboursStayKeyed, is_of_neighbour, neighbours_are_keyed}}, proofs.{Addresses.KeepsAddresses, Rows.each_placed, Bounds.{at_most, by_each, each_by, each_replaced, le_so, never}, Steps.kept_test}}
+use Rattle.law_states.{specs.{Placing.{placed_key, placed_under, without_neighbours}, Reloading.under, Ends.{HellosStayNear, IsKept, RegistersStayNear, ends_by, hellos_are_near, longest_stop, registers_are_near}, Kinds.{NeighboursStayKeyed, is_of_neighbour, neighbours_are_keyed}}, proofs.{Addresses.KeepsAddresses, Rows.each_placed, Bounds.{at_most, by_each, each_by, each_replaced, le_so, never}, Steps.kept_test}}
 use Rattle.law_plane.{specs.Keeping.kept_until}
 
 -- an end, if there is one, by a timestamp
@@ -293,12 +293,12 @@ module _ (of_hellos of_registers of_neighbours : Bool) (last : ℕ) where
   unfolding kept_until
   keeps s g src end f = f
 
-  keyed_there : (places : List ℕ) (e : Key × NeighbourRow) → IsKeyed e → IsKeyed (in_place places e.0, e.1)
+  keyed_there : (places : List ℕ) (e : Key × NeighbourRow) → IsKeyed e → IsKeyed (placed_key places e.0, e.1)
   unfolding is_of_neighbour
   keyed_there places e is =
-      subst (λ (k : Key). same_key (in_place places (neighbour_key (iface_in e.0) (source_in e.0))) (in_place places k) ≡ true)
+      subst (λ (k : Key). same_key (placed_key places (neighbour_key (iface_in e.0) (source_in e.0))) (placed_key places k) ≡ true)
       (equal_keys (neighbour_key (iface_in e.0) (source_in e.0)) e.0 is)
-      (same_key_same (in_place places (neighbour_key (iface_in e.0) (source_in e.0))))
+      (same_key_same (placed_key places (neighbour_key (iface_in e.0) (source_in e.0))))
 
   goes : (s : State) (places : List ℕ) (c : Config) → KeepsAddresses s places c → IsBy s → IsBy (placed_under s places c)
   unfolding placed_under

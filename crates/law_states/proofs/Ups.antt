@@ -4,7 +4,7 @@ use Rattle.pim_types.{specs.{declared.{config.Config.Config, fact.{InterfaceRow.
 use Rattle.pim_model.{specs.{Limits.config_test, State.{addressing_of, State, iface_count, is_up}, Step.{ran, rps_replaced}, Tables.{Table, has_row, put, row_at}}}
 use Rattle.law_events.{specs.Rest.IsAtRest}
 use Rattle.law_settled.{specs.Ready.IsSettled, proofs.{ListLaws.{any_among_all, each_more}, RowLaws.{has_row_any, has_row_put}}}
-use Rattle.law_states.{specs.{Reload.config_of, ReloadLaws.AreConfigured, Reloading.{down_event, hellos_anew, replaced, under}, PlacedLaws.PlacedAreConfigured, Placing.{Places, are_once, are_places, gone_on, in_order, in_place, index_of, kept_places, moved, new_order, number_at, old_order, placed_under, put_placed, reload_by, resubnetted, to_order, without_neighbours}}, proofs.{Removed.{gone_are_down, gone_keeps, settled_up}, Apart.{at_low, count_new, first, low, old_count, second, to_at, value_low}, Moved.{moved_is_under, placed_reload_is_under}, Orders.{all_found, old_low}, PlacedRest.{gone_on_rests, moved_is_at_rest, ordered_setting}}}
+use Rattle.law_states.{specs.{Reload.config_of, ReloadLaws.AreConfigured, Reloading.{down_event, hellos_anew, replaced, under}, PlacedLaws.PlacedAreConfigured, Placing.{Places, are_once, are_places, gone_on, in_order, placed_key, index_of, kept_places, moved, new_order, number_at, old_order, placed_under, put_placed, reload_by, resubnetted, to_order, without_neighbours}}, proofs.{Removed.{gone_are_down, gone_keeps, settled_up}, Apart.{at_low, count_new, first, low, old_count, second, to_at, value_low}, Moved.{moved_is_under, placed_reload_is_under}, Orders.{all_found, old_low}, PlacedRest.{gone_on_rests, moved_is_at_rest, ordered_setting}}}
 
 -- ---- what a map that has passed its tests is
 
@@ -48,17 +48,17 @@ either_swapped false b c = refl
 
 module _ {R : Type 0} (places : List ℕ) (k : Key) where
   found_of : (t rows : Table R)
-      → has_row (put_placed places t rows) k ≡ (has_row t k || list_any (λ (e : Key × R). same_key k (in_place places e.0)) rows)
+      → has_row (put_placed places t rows) k ≡ (has_row t k || list_any (λ (e : Key × R). same_key k (placed_key places e.0)) rows)
   found_of t [] = sym (left_alone (has_row t k))
     where
       left_alone : (b : Bool) → (b || false) ≡ b
       left_alone true = refl
       left_alone false = refl
   found_of t (e ∷ rows) =
-      found_of (put t (in_place places e.0) e.1) rows
-      ∙ ap (λ (b : Bool). b || list_any (λ (x : Key × R). same_key k (in_place places x.0)) rows)
-      (has_row_put k (in_place places e.0) e.1 t)
-      ∙ either_swapped (same_key k (in_place places e.0)) (has_row t k) _
+      found_of (put t (placed_key places e.0) e.1) rows
+      ∙ ap (λ (b : Bool). b || list_any (λ (x : Key × R). same_key k (placed_key places x.0)) rows)
+      (has_row_put k (placed_key places e.0) e.1 t)
+      ∙ either_swapped (same_key k (placed_key places e.0)) (has_row t k) _
 
 -- where an interface that is up was up before
 abbrev pub CameFrom : State → List ℕ → ℕ → Type 0
@@ -66,9 +66,9 @@ CameFrom s places p = (i : ℕ) × (number_at places i ≡ p) × (is_up s i ≡ 
 
 module _ (s : State) (places : List ℕ) (p : ℕ) where
   one_came : (k : Key) → list_any (λ (x : Key × InterfaceRow). same_key k x.0) s.interfaces ≡ true
-      → same_key (iface_key p) (in_place places k) ≡ true → CameFrom s places p
+      → same_key (iface_key p) (placed_key places k) ≡ true → CameFrom s places p
   one_came k there same =
-      let is : in_place places k ≡ iface_key p = sym (equal_keys (iface_key p) (in_place places k) same) in
+      let is : placed_key places k ≡ iface_key p = sym (equal_keys (iface_key p) (placed_key places k) same) in
       let key : iface_key (iface_in k) ≡ k =
       sym (λ j. record { iface = k.iface; group = (is j).group; source = (is j).source; rpt = (is j).rpt }) in
       (iface_in k, ap (λ (q : Key). iface_in q) is, ap (λ (q : Key). has_row s.interfaces q) key ∙ has_row_any k s.interfaces ∙ there)
@@ -81,9 +81,9 @@ module _ (s : State) (places : List ℕ) (p : ℕ) where
   unfolding placed_under
   came_from c up =
       any_among_all (λ (e : Key × InterfaceRow). list_any (λ (x : Key × InterfaceRow). same_key e.0 x.0) s.interfaces ≡ true)
-      (λ (e : Key × InterfaceRow). same_key (iface_key p) (in_place places e.0)) (λ e there same. one_came e.0 there same)
+      (λ (e : Key × InterfaceRow). same_key (iface_key p) (placed_key places e.0)) (λ e there same. one_came e.0 there same)
       s.interfaces (each_there s.interfaces)
-      (ap (λ (b : Bool). b || list_any (λ (e : Key × InterfaceRow). same_key (iface_key p) (in_place places e.0)) s.interfaces)
+      (ap (λ (b : Bool). b || list_any (λ (e : Key × InterfaceRow). same_key (iface_key p) (placed_key places e.0)) s.interfaces)
       (sym none_yet) ∙ sym (found_of places (iface_key p) [] s.interfaces) ∙ up)
 
 pub moved_up : (s : State) (places : List ℕ) (c : Config) (apart : List ℕ) (w p : ℕ)

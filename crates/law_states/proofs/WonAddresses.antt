@@ -5,7 +5,7 @@ use Rattle.pim_wire.{specs.{declared.{assert.Assert.Assert as AssertMessage, hel
 use Rattle.pim_model.{specs.{declared.accepted.Accepted.Accepted, AssertMacros.{could_assert, could_assert_star, my_metric, my_metric_star}, Asserts.{assert_as_loser, assert_as_winner, assert_at, assert_due, assert_forgotten, assert_in_no_info, assert_received, could_assert_at, data_seen, is_acceptable, is_challenge, is_inferior, is_of_tree, is_tracking_at, loses, loses_first, my_metric_at, winner_time, wins, wins_again, with_spt_bit, without_spt_bit}, Clearing.clear, Downstream.{asserts_after_joins, downstream_expired, keys_taken, prune_pending_due, to_me}, Firing.{fire_row, fired, keepalive_due, settled}, Forwarding.{forwarded, list_chosen, source_here, source_joined, stray}, Hellos.{hello_due, hello_received, hello_triggered, neighbour_due, neighbour_replaced, neighbour_restarted}, Messages.Message, Querier.{general_query_due, group_record_due, group_repeat_due, other_querier_gone, querier_up, querying, querying_on, source_record_due, source_repeat_due, sources_sent}, Records.{with_members, with_repeats_of_rows}, Registers.{register_due, register_stop_seen, settle_registers}, Sets.{is_better, is_winner, route_metric, rpt_metric, spt_metric}, State.{Addressing, addressing_of, State, address_among, is_own, my_address, opening}, Step.{change, iface_down, iface_up, rps_replaced}, Tables.{drop_at, drop_where, has_row, put, row_at}, Upstream.{join_timer_due, moved_join_timer, moved_override_timer, override_timer_due, upstream}, Unicast.{route, rp_route}, Writing.write_all}}
 use Rattle.law_settled.{proofs.{ListLaws.{by_cond, each_filter, each_more, each_of_list, each_passing, list_of_each}, RowLaws.each_put, SettlingLaws.{kept_by_clearing, kept_by_telling}, TableLaws.row_of_each}}
 use Rattle.law_streams.{proofs.LiesUnder.row_fires}
-use Rattle.law_states.{specs.{Placing.{in_place, placed_under, without_neighbours}, Reloading.{asserts_under, is_won_before, under}, Own.{WonStayOwn, names_own, won_are_own}}, proofs.{Addresses.KeepsAddresses, Rows.each_placed, AssertEnds.{Read, here_read, joined_read, pending_read, query_read, read, register_read, report_read, seen_read, updated_read, watched_read}, Bounds.each_replaced, Steps.kept_test}}
+use Rattle.law_states.{specs.{Placing.{placed_key, placed_under, without_neighbours}, Reloading.{asserts_under, is_won_before, under}, Own.{WonStayOwn, names_own, won_are_own}}, proofs.{Addresses.KeepsAddresses, Rows.each_placed, AssertEnds.{Read, here_read, joined_read, pending_read, query_read, read, register_read, report_read, seen_read, updated_read, watched_read}, Bounds.each_replaced, Steps.kept_test}}
 use Rattle.law_plane.{specs.Keeping.kept_until}
 
 -- ---- the address of a metric
@@ -250,7 +250,7 @@ module _ (last : ℕ) where
   keeps s g src end f = record { ends = f.ends }
 
   goes_on : (s : State) (places : List ℕ) (c : Config) → KeepsAddresses s places c → (k : Key) (role : AssertRole) (r : AssertRow)
-      → FitsAt s.configured k role r → FitsAt (addressing_of c) (in_place places k) role r
+      → FitsAt s.configured k role r → FitsAt (addressing_of c) (placed_key places k) role r
   goes_on s places c same k AssertRole.Winner r f = f ∙ sym (same (iface_in k))
   goes_on s places c same k AssertRole.Loser r f = tt
 

@@ -4,7 +4,7 @@ use Rattle.pim_types.{specs.{Keys.iface_in, declared.{config.Config.Config, fact
 use Rattle.pim_model.{specs.{Limits.config_test, State.{State, address_among, addressing_of, iface_count}, Tables.{is_among, row_at}}}
 use Rattle.law_events.{specs.Rest.IsAtRest}
 use Rattle.law_settled.{specs.Ready.IsOrdered}
-use Rattle.law_states.{specs.{Reload.config_of, ReloadLaws.AreConfigured, Reloading.reload, Placing.{Places, are_places, each_to_itself, in_order, in_place, kept_places, moved, new_order, number_at, old_order, placed_under, reload_by, resubnetted, to_order}}}
+use Rattle.law_states.{specs.{Reload.config_of, ReloadLaws.AreConfigured, Reloading.reload, Placing.{Places, are_places, each_to_itself, in_order, placed_key, kept_places, moved, new_order, number_at, old_order, placed_under, reload_by, resubnetted, to_order}}}
 
 -- whatever the other configuration and the map are, what it leaves is at rest
 abbrev pub PlacedReloadLeavesRest : Type 0
@@ -18,16 +18,16 @@ AreApart places = (i j : ℕ) → number_at places i ≡ number_at places j → 
 -- The row of a state at a key is found in another state at the key of its other place, whatever it is; where there is none,
 -- none is found there.
 pub record IsFoundThere (places : List ℕ) (k : Key) (s t : State) : Type 0 where
-  pub interfaces : row_at t.interfaces (in_place places k) ≡ row_at s.interfaces k
-  pub neighbours : row_at t.neighbours (in_place places k) ≡ row_at s.neighbours k
-  pub queriers : row_at t.queriers (in_place places k) ≡ row_at s.queriers k
-  pub group_records : row_at t.group_records (in_place places k) ≡ row_at s.group_records k
-  pub source_records : row_at t.source_records (in_place places k) ≡ row_at s.source_records k
-  pub group_repeats : row_at t.group_repeats (in_place places k) ≡ row_at s.group_repeats k
-  pub source_repeats : row_at t.source_repeats (in_place places k) ≡ row_at s.source_repeats k
-  pub sendings : row_at t.sendings (in_place places k) ≡ row_at s.sendings k
-  pub downstream : row_at t.downstream (in_place places k) ≡ row_at s.downstream k
-  pub asserts : row_at t.asserts (in_place places k) ≡ row_at s.asserts k
+  pub interfaces : row_at t.interfaces (placed_key places k) ≡ row_at s.interfaces k
+  pub neighbours : row_at t.neighbours (placed_key places k) ≡ row_at s.neighbours k
+  pub queriers : row_at t.queriers (placed_key places k) ≡ row_at s.queriers k
+  pub group_records : row_at t.group_records (placed_key places k) ≡ row_at s.group_records k
+  pub source_records : row_at t.source_records (placed_key places k) ≡ row_at s.source_records k
+  pub group_repeats : row_at t.group_repeats (placed_key places k) ≡ row_at s.group_repeats k
+  pub source_repeats : row_at t.source_repeats (placed_key places k) ≡ row_at s.source_repeats k
+  pub sendings : row_at t.sendings (placed_key places k) ≡ row_at s.sendings k
+  pub downstream : row_at t.downstream (placed_key places k) ≡ row_at s.downstream k
+  pub asserts : row_at t.asserts (placed_key places k) ≡ row_at s.asserts k
 
 -- Where no two places are one, each fact of an interface is the fact of its other place, and no other fact is.
 abbrev pub FactsGoWithTheirLink : Type 0
@@ -50,8 +50,8 @@ PlacesAreThere = (s : State) (m : Places) (c : Config) → are_places (iface_cou
 abbrev pub NeighboursStayOrGo : Type 0
 NeighboursStayOrGo = (s : State) (places : List ℕ) (c : Config) (apart : List ℕ) (w : ℕ) (k : Key) → AreApart places
     → IsOrdered s
-    → row_at (moved s places c apart w).0.neighbours (in_place places k)
-    ≡ (if is_among (iface_in (in_place places k)) apart then None else row_at s.neighbours k)
+    → row_at (moved s places c apart w).0.neighbours (placed_key places k)
+    ≡ (if is_among (iface_in (placed_key places k)) apart then None else row_at s.neighbours k)
 
 -- the state is under the configuration of the reload, and no other
 abbrev pub PlacedReloadIsUnder : Type 0

@@ -96,14 +96,14 @@ in_order order c = record c {
 -- ---- facts at other places
 
 -- the key of a fact whose interface goes to another place
-abbrev pub in_place : List ℕ → Key → Key
-in_place places k = record k { iface = record { number = number_at places (iface_in k) } }
+abbrev pub placed_key : List ℕ → Key → Key
+placed_key places k = record k { iface = record { number = number_at places (iface_in k) } }
 
 module _ {R : Type 0} (places : List ℕ) where
   -- a table with these rows put into it, each at its interface's place
   abbrev pub put_placed : Table R → Table R → Table R
   put_placed t [] = t
-  put_placed t (e ∷ rows) = put_placed (put t (in_place places e.0) e.1) rows
+  put_placed t (e ∷ rows) = put_placed (put t (placed_key places e.0) e.1) rows
 
   -- the rows of a table, each at its interface's place
   abbrev pub placed : Table R → Table R

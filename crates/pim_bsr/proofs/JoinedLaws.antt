@@ -3,7 +3,7 @@ use Rattle.std.{proofs.{Common.{◌≡◌, ℕ, zero, suc, Bool, true, false, co
 use Rattle.pim_ip.{specs.{Ipv4.{Packet, ipv4_reading}, declared.refusal.Refusal.Refusal}}
 use Rattle.pim_types.{specs.declared.{config.RpRange.RpRange, event.{Event.Event, EventKind.EventKind}, outcome.{Emission.Emission, Outcome.Outcome}}}
 use Rattle.pim_model.{specs.{State.State, Step.{Answered, outcome_of, ran, run, state_after, step}}}
-use Rattle.pim_bsr.{specs.{Hearing.{Around, around_of, heard_frame, heard_packet, heard_reading, is_bootstrap}, Joined.{Both, Told, event, event_given, events_given, first_end, frame_given, frame_joined, is_done, is_due, is_other_type, is_refused_moment, joined, joined_step, joined_with, kind_given, kind_joined, outcomes_in, passed, ran_with, ranges_joined, rps_if, rps_told, time_given, time_joined}, Laws.{JoinedIsRun, WithoutMessageNothingChanges, WithoutSettingNothingChanges, brings_bootstrap, is_bootstrap_read}, Table.{Known, at_time, configured, given, given_of, room_beside, runs, same_ranges}, declared.learned.Learned.Learned}, proofs.Ranges.same_itself}
+use Rattle.pim_bsr.{specs.{Hearing.{Around, around_of, heard_frame, heard_packet, heard_reading, is_bootstrap}, Joined.{FrontedRouter, Told, event, event_given, events_given, first_end, frame_given, frame_joined, is_done, is_due, is_other_type, is_refused_moment, joined, joined_step, joined_with, kind_given, kind_joined, outcomes_in, passed, ran_with, ranges_joined, rps_if, rps_told, time_given, time_joined}, Laws.{JoinedIsRun, WithoutMessageNothingChanges, WithoutSettingNothingChanges, brings_bootstrap, is_bootstrap_read}, Table.{Known, at_time, configured, given, given_of, room_beside, runs, same_ranges}, declared.learned.Learned.Learned}, proofs.Ranges.same_itself}
 
 -- ---- events one after others
 
@@ -16,7 +16,7 @@ ran_both (e ∷ es) fs s =
     (ap (λ (os : List Outcome). outcome_of (step s e) ∷ os) later.0, later.1)
 
 -- the outcomes of one event at the front, and the state after it, are those of the events that the router is given
-pub record Runs (told : Told × Both) (s : State) (es : List Event) : Type 0 where
+pub record Runs (told : Told × FrontedRouter) (s : State) (es : List Event) : Type 0 where
   pub outcomes : told.0.outcomes ≡ (ran s es).0
   pub state : told.1.state ≡ (ran s es).1
 
@@ -74,7 +74,7 @@ unfolding joined events_given outcomes_in run state_after ran
 joined_is_run b [] = (refl, refl)
 joined_is_run b (e ∷ es) =
     let one : Runs (joined_step b e) b.state (event_given b e) = step_runs b.known b.state e in
-    let next : Both = (joined_step b e).1 in
+    let next : FrontedRouter = (joined_step b e).1 in
     let later = joined_is_run next es in
     let both = ran_both (event_given b e) (events_given next es) b.state in (
       ap (λ (os : List Outcome). os ++ outcomes_in (joined next es).0) one.outcomes
@@ -97,7 +97,7 @@ none_told : (draw : ℕ) (k : Known) → rps_told draw k k ≡ []
 none_told draw k = rw (same_itself (given k)) refl
 
 -- a front that knows no RPs, and gives the router the event alone
-record Alone (k : Known) (told : Told × Both) (s : State) (e : Event) : Type 0 where
+record Alone (k : Known) (told : Told × FrontedRouter) (s : State) (e : Event) : Type 0 where
   outcomes : told.0.outcomes ≡ outcome_of (step s e) ∷ []
   state : told.1.state ≡ (step s e).state
   left : Known
@@ -234,13 +234,13 @@ without_message s k [] none others = refl
 without_message s k (e ∷ es) none others =
     let one : Alone k (kind_joined k s e e.kind) s e = kind_alone k s e e.kind refl none others.0 in
     let later = without_message (step s e).state one.left es one.none others.1 in
-    let next : (kind_joined k s e e.kind).1 ≡ (let b : Both = record { known = Some one.left; state = (step s e).state } in b) =
+    let next : (kind_joined k s e e.kind).1 ≡ (let b : FrontedRouter = record { known = Some one.left; state = (step s e).state } in b) =
     both_is (kind_joined k s e e.kind).1 one.left (step s e).state one.known one.state in
     ap (λ (os : List Outcome). os ++ outcomes_in (joined (kind_joined k s e e.kind).1 es).0) one.outcomes
-    ∙ ap (λ (b : Both). outcome_of (step s e) ∷ outcomes_in (joined b es).0) next
+    ∙ ap (λ (b : FrontedRouter). outcome_of (step s e) ∷ outcomes_in (joined b es).0) next
     ∙ ap (λ (os : List Outcome). outcome_of (step s e) ∷ os) later
   where
-    both_is : (b : Both) (k : Known) (s : State) → b.known ≡ Some k → b.state ≡ s → b ≡ (let x : Both = record { known = Some k; state = s } in x)
+    both_is : (b : FrontedRouter) (k : Known) (s : State) → b.known ≡ Some k → b.state ≡ s → b ≡ (let x : FrontedRouter = record { known = Some k; state = s } in x)
     both_is b k s e f =
-        ap (λ (known : Option Known). let x : Both = record { known = known; state = b.state } in x) e
-        ∙ ap (λ (state : State). let x : Both = record { known = Some k; state = state } in x) f
+        ap (λ (known : Option Known). let x : FrontedRouter = record { known = known; state = b.state } in x) e
+        ∙ ap (λ (state : State). let x : FrontedRouter = record { known = Some k; state = state } in x) f

@@ -6,7 +6,7 @@ use Rattle.pim_model.{specs.{Judging.last_moment, State.State, Step.{Answered, o
 use Rattle.pim_bsr.{specs.{Hearing.{Hearing, around_of, heard_frame}, Table.{Known, at_time, configured, given, same_ranges}, declared.learned.Learned.Learned}}
 
 -- what is known, if the front is on, and the machine's state
-pub record Both : Type 0 where
+pub record FrontedRouter : Type 0 where
   pub known : Option Known
   pub state : State
 
@@ -72,16 +72,16 @@ is_done (Ok Verdict.Done) = true
 is_done _ = false
 
 -- what the router told of events, and its state
-abbrev pub ran_with : List Emission → Option Known → List Outcome × State → Told × Both
+abbrev pub ran_with : List Emission → Option Known → List Outcome × State → Told × FrontedRouter
 ran_with sent known r = (record { sent = sent; outcomes = r.0 }, record { known = known; state = r.1 })
 
 -- an event that goes to the router as it came
-abbrev pub passed : Option Known → State → Event → Told × Both
+abbrev pub passed : Option Known → State → Event → Told × FrontedRouter
 passed known s e = ran_with [] known (ran s (e ∷ []))
 
 -- A packet that came on a link goes to the router as it came. Where that ignores it for its type the front hears it, and
 -- then the router is given other ranges where they are others.
-unfoldable pub frame_joined : Known → State → Event → ℕ → List ℕ → Told × Both
+unfoldable pub frame_joined : Known → State → Event → ℕ → List ℕ → Told × FrontedRouter
 frame_joined k s e i bytes =
     let a : Answered = step s e in
     let h : Hearing = heard_frame (around_of a.state) k i bytes in
@@ -90,20 +90,20 @@ frame_joined k s e i bytes =
     else ran_with [] (Some k) (outcome_of a ∷ [], a.state)
 
 -- Other configured ranges go to the router with those that are learned beside them. What it refuses isn't known.
-unfoldable pub ranges_joined : Known → State → Event → List RpRange → Told × Both
+unfoldable pub ranges_joined : Known → State → Event → List RpRange → Told × FrontedRouter
 ranges_joined k s e static =
     let after : Known = configured k.limit static k in
     let a : Answered = step s (event e.draw (EventKind.Rps (given after))) in
     ran_with [] (Some (if is_done a.answer then after else k)) (outcome_of a ∷ [], a.state)
 
 -- Time passes in steps; a moment that the router refuses goes to it as it came.
-unfoldable pub time_joined : Known → State → Event → ℕ → Told × Both
+unfoldable pub time_joined : Known → State → Event → ℕ → Told × FrontedRouter
 time_joined k s e moment =
     if is_refused_moment s moment then passed (Some k) s e
     else ran_with [] (Some (at_time moment k)) (ran s (time_given e.draw (length k.table.rps) k moment))
 
 -- an event's kind at a front that is on
-abbrev pub kind_joined : Known → State → Event → EventKind → Told × Both
+abbrev pub kind_joined : Known → State → Event → EventKind → Told × FrontedRouter
 kind_joined k s e (EventKind.Frame i bytes) = frame_joined k s e i.number bytes
 kind_joined k s e (EventKind.Rps static) = ranges_joined k s e static
 kind_joined k s e (EventKind.Advance moment) = time_joined k s e moment
@@ -113,20 +113,20 @@ kind_joined k s e (EventKind.Down i) = passed (Some k) s e
 kind_joined k s e (EventKind.Routes routes) = passed (Some k) s e
 
 -- a front that is on, or none
-abbrev pub joined_with : Option Known → State → Event → Told × Both
+abbrev pub joined_with : Option Known → State → Event → Told × FrontedRouter
 joined_with None s e = passed None s e
 joined_with (Some k) s e = kind_joined k s e e.kind
 
 -- one event at the front and the router behind it
-unfoldable pub joined_step : Both → Event → Told × Both
+unfoldable pub joined_step : FrontedRouter → Event → Told × FrontedRouter
 joined_step b e = joined_with b.known b.state e
 
 -- Events one after the other: what was told of each, and what is left at the end.
-unfoldable pub joined : Both → List Event → List Told × Both
+unfoldable pub joined : FrontedRouter → List Event → List Told × FrontedRouter
 joined b [] = ([], b)
 joined b (e ∷ es) =
-    let first : Told × Both = joined_step b e in
-    let later : List Told × Both = joined first.1 es in
+    let first : Told × FrontedRouter = joined_step b e in
+    let later : List Told × FrontedRouter = joined first.1 es in
     (first.0 ∷ later.0, later.1)
 
 -- ---- what the router is given
@@ -152,11 +152,11 @@ abbrev pub given_with : Option Known → State → Event → List Event
 given_with None s e = e ∷ []
 given_with (Some k) s e = kind_given k s e e.kind
 
-unfoldable pub event_given : Both → Event → List Event
+unfoldable pub event_given : FrontedRouter → Event → List Event
 event_given b e = given_with b.known b.state e
 
 -- for events one after the other
-unfoldable pub events_given : Both → List Event → List Event
+unfoldable pub events_given : FrontedRouter → List Event → List Event
 events_given b [] = []
 events_given b (e ∷ es) = event_given b e ++ events_given (joined_step b e).1 es
 

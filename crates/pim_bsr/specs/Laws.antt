@@ -4,7 +4,7 @@ use Rattle.pim_ip.{specs.{declared.{addr.Prefix.Prefix, refusal.Refusal.Refusal}
 use Rattle.pim_types.{specs.declared.{config.RpRange.RpRange, event.{Event.Event, EventKind.EventKind}}}
 use Rattle.pim_model.{specs.{Limits.same_prefix, State.State, Step.{run, state_after}}}
 use Rattle.pim_bootstrap.{specs.{Bootstraps.{Bootstrap, BootstrapRange}}}
-use Rattle.pim_bsr.{specs.{Hearing.{Around, heard, is_bootstrap, is_from_rpf, is_repeated, sent_on}, Joined.{Both, events_given, joined, outcomes_in}, Table.{Known, Table, at_time, configured, given, given_of, has_prefix, is_preferred, range_prefix, room_beside, with_mask, with_message}, declared.{heard.{Heard.Heard}, learned.{Elected.Elected, Learned.Learned, Part.Part}}}}
+use Rattle.pim_bsr.{specs.{Hearing.{Around, heard, is_bootstrap, is_from_rpf, is_repeated, sent_on}, Joined.{FrontedRouter, events_given, joined, outcomes_in}, Table.{Known, Table, at_time, configured, given, given_of, has_prefix, is_preferred, range_prefix, room_beside, with_mask, with_message}, declared.{heard.{Heard.Heard}, learned.{Elected.Elected, Learned.Learned, Part.Part}}}}
 
 -- ---- the configured ranges
 
@@ -159,7 +159,7 @@ SameEverywhere =
 -- The router behind the front is the specification's router, with the events that the front gives it.
 abbrev pub JoinedIsRun : Type 0
 JoinedIsRun =
-    (b : Both) (es : List Event)
+    (b : FrontedRouter) (es : List Event)
     → (outcomes_in (joined b es).0 ≡ run b.state (events_given b es))
     × ((joined b es).1.state ≡ state_after b.state (events_given b es))
 

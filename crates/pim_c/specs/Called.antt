@@ -114,6 +114,8 @@ Refused (Some s) answer left = (answer ≡ refused_number s.router.standing (has
 abbrev pub Copied : Option ShownSession → Event → ℕ → Option ShownSession → Type 0
 Copied old e answer left = Stepped old e answer left ⊎ Refused old answer left
 
+-- After a seen packet a session without a router answers that it is lost. Else the event that stands for the packet is
+-- refused for untaken packets, or the router took it, or an allocation failed and the router is lost.
 abbrev pub SeenFrom : ShownSession → Option Standing → Event → (group source : ℕ) → ℕ → ShownSession → Type 0
 SeenFrom s None e group source answer left = (answer ≡ 41) × (left ≡ lost s)
 SeenFrom s (Some r) e group source answer left = UnlessUntaken (has_untaken s) s answer left (

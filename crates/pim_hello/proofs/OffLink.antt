@@ -4,7 +4,7 @@ use Rattle.pim_ip.{specs.{Prefixes.{contains, longest_match}, declared.addr.Pref
 use Rattle.pim_types.{specs.{declared.{config.{InterfaceConfig.InterfaceConfig, Route.Route}, fact.{InterfaceRow.InterfaceRow, Key.Key}, path.Path.Path}, Keys.{iface_key, is_of_group, source_in}}}
 use Rattle.pim_model.{specs.{State.{Addressing, State, is_own_among}, Tables.{Table, below, has_row, keys_in}, Unicast.{is_on_link_among, link_among, link_path, path_if_up, route, route_among, route_path, routed_among, subnet}, Upstream.{fact_keys, groups_of, sources_of}}}
 use Rattle.law_events.{specs.Adjacent.{is_linked, linked_of_group, linked_sources}, proofs.Nowhere.{neither_first, neither_second, sources_fail}}
-use Rattle.pim_state.{specs.Sources.{is_within, may_link}}
+use Rattle.pim_state.{specs.Sources.{is_within, has_source_on_subnet}}
 
 -- ---- a source that is on the link is in the subnet
 
@@ -62,12 +62,12 @@ module _ (configured : Addressing) (up : Table InterfaceRow) (routes : List Rout
 
 -- ---- of all groups
 
-module _ (s : State) (i : ℕ) (none : may_link s i ≡ false) where
+module _ (s : State) (i : ℕ) (none : has_source_on_subnet s i ≡ false) where
   abbrev within : ℕ → Bool
   within a = has_address s.configured i a
 
   none_in : list_any (λ k. is_some k.source && within (source_in k)) (fact_keys s) ≡ false
-  unfolding may_link
+  unfolding has_source_on_subnet
   none_in = go (slice_get s.configured.interfaces i) none
     where
       never : (ks : List Key) → list_any (λ (k : Key). is_some k.source && false) ks ≡ false
@@ -107,6 +107,6 @@ module _ (s : State) (i : ℕ) (none : may_link s i ≡ false) where
   nothing_linked = nothing_of_any (groups_of (fact_keys s))
 
 -- nothing is put behind the keys
-pub none_put : (s : State) (i : ℕ) (keys : List Key) → may_link s i ≡ false → keys ≡ keys ++ linked_sources s i
+pub none_put : (s : State) (i : ℕ) (keys : List Key) → has_source_on_subnet s i ≡ false → keys ≡ keys ++ linked_sources s i
 none_put s i keys none =
     sym (append-nil keys) ∙ ap (λ (ks : List Key). keys ++ ks) (sym (nothing_linked s i none))

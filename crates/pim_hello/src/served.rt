@@ -118,7 +118,7 @@ fn put_linked_sources(
 ) -> Result<(), AllocError>
     ensures { OnOk result (keys.new.items ≡ keys.old.items ++ linked_sources world.now iface.number) }
 {
-    if !world.may_link(iface, meter) {
+    if !world.has_source_on_subnet(iface, meter) {
         return Ok(());
     }
     let groups = world.groups(alloc, meter)?;

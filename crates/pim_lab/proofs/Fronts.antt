@@ -4,7 +4,7 @@ use Rattle.pim_ip.{specs.{Ipv4.is_source_specific, Prefixes.longest_match}}
 use Rattle.pim_types.{specs.{Keys.star_key, declared.{config.IfaceId.IfaceId, event.{Event.Event, EventKind.EventKind}, outcome.{Outcome.Outcome, Verdict.Verdict}}}}
 use Rattle.pim_model.{specs.{Network.{At, Network, Station, event_of, moved, moved_at, station_at, stepped}, State.{State, is_own, is_own_among}, Step.step, Tables.{has_row, row_at}, Unicast.{rp_among, rp_of}}}
 use Rattle.pim_net.{specs.{Carried.{AreMoves, HasMoved, carried_packet}, declared.moves.Move.Move, Showing.{Standing, shown_state}}}
-use Rattle.igmp_older.{specs.{Joined.{Both, bytes_given, event_given, joined_step, kind_given, known_after, known_if, older_in, older_of, present_end, rows_of}, Presence.{Present, hosts_on}, Translation.{Gives, Translation, packet_given, translation}, declared.{front.Given.Given, older.Older.Older}}}
+use Rattle.igmp_older.{specs.{Joined.{FrontedRouter, bytes_given, event_given, joined_step, kind_given, known_after, known_if, older_in, older_of, present_end, rows_of}, Presence.{Present, hosts_on}, Translation.{Gives, Translation, packet_given, translation}, declared.{front.Given.Given, older.Older.Older}}}
 use Rattle.pim_lab.{specs.{Fronts.{IsMarkOf, Stands, behind, marked}, declared.front.Mark.Mark}}
 
 -- ---- what is asked of a router
@@ -79,7 +79,7 @@ given_older Given.Same (Some t) out gives = absurd gives
 given_older (Given.Rewritten older) None out gives = absurd gives
 given_older (Given.Rewritten older) (Some t) out gives = gives.0
 
-module _ (b : Both) (draw : ℕ) (i : IfaceId) (bytes : List ℕ) where
+module _ (b : FrontedRouter) (draw : ℕ) (i : IfaceId) (bytes : List ℕ) where
   abbrev pub given_of : Option Translation
   given_of = translation (rows_of b) b.state.present i.number (hosts_on b.present i.number) bytes
 

@@ -4,7 +4,7 @@ use Rattle.pim_ip.{specs.declared.refusal.Refusal.Refusal}
 use Rattle.pim_types.{specs.declared.{event.EventKind.EventKind, fact.GroupRecordRow.GroupRecordRow, outcome.Verdict.Verdict}}
 use Rattle.pim_model.{specs.{State.State, Tables.Table}}
 use Rattle.pim_net.{specs.Showing.Standing}
-use Rattle.igmp_older.{specs.{Joined.{Both, known_if, noted_answered, older_in}, Presence.{Present, left, looked}}}
+use Rattle.igmp_older.{specs.{Joined.{FrontedRouter, known_if, noted_answered, older_in}, Presence.{Present, left, looked}}}
 use Rattle.pim_lab.{specs.declared.front.Mark.Mark}
 
 -- the router hasn't failed, and this is its state
@@ -12,7 +12,7 @@ abbrev pub Stands : Option Standing → State → Type 0
 Stands standing s = option_map (λ (r : Standing). r.state) standing ≡ Some s
 
 -- a router's state behind what is known of older hosts
-abbrev pub behind : Present → State → Both
+abbrev pub behind : Present → State → FrontedRouter
 behind p s = record { present = p; state = s }
 
 abbrev pub marked_done : Present → Table GroupRecordRow → Mark → Present
@@ -35,7 +35,7 @@ marked p groups Mark.Stay packet answer = p
 
 -- A mark says how the rows of older hosts become what is known after an event of this kind, whatever the router
 -- answers.
-abbrev pub IsMarkOf : Both → EventKind → Mark → List ℕ → Type 0
+abbrev pub IsMarkOf : FrontedRouter → EventKind → Mark → List ℕ → Type 0
 IsMarkOf b kind mark packet =
     (after : State) (answer : Result Verdict Refusal)
     → marked b.present after.group_records mark packet answer ≡ known_if b after kind answer

@@ -3,7 +3,7 @@ use Rattle.std.{specs.Prelude.{List, [], ℕ, ◌++◌, ◌≡◌}}
 use Rattle.pim_types.{specs.declared.{event.{Event.Event, EventKind.EventKind}, outcome.{Emission.Emission, Outcome.Outcome}}}
 use Rattle.pim_model.{specs.{Network.{Network, moved_at}, State.State}}
 use Rattle.pim_net.{specs.Showing.with_sent_at}
-use Rattle.igmp_older.{specs.Joined.{Both, joined_step}}
+use Rattle.igmp_older.{specs.Joined.{FrontedRouter, joined_step}}
 use Rattle.pim_anycast.{specs.{Announced.{announced_due, announced_new, is_local, local_keys}, Joined.{event_given, sent_after, sent_before}, declared.set.RpSet.RpSet}}
 use Rattle.igmp_older.specs.Joined as older
 use Rattle.pim_lab.{specs.declared.shared.Watch.Watch}
@@ -26,17 +26,17 @@ beside before o after = record o { emissions = before ++ o.emissions ++ after }
 -- ---- one event
 
 -- an event at a router behind both fronts, by what the first gives the second
-abbrev pub came_behind : List RpSet → Both → Event → Outcome × Both
+abbrev pub came_behind : List RpSet → FrontedRouter → Event → Outcome × FrontedRouter
 came_behind sets b e = joined_step b (event_given sets b.state e)
 
 -- its outcome, with what the first front sends
-unfoldable pub shared_outcome : List RpSet → Both → Event → Outcome
+unfoldable pub shared_outcome : List RpSet → FrontedRouter → Event → Outcome
 shared_outcome sets b e =
-    let a : Outcome × Both = came_behind sets b e in
+    let a : Outcome × FrontedRouter = came_behind sets b e in
     beside (sent_before sets b.state e.kind) a.0 (sent_after sets b.state (a.1).state e.kind)
 
 -- the network after it: the copies leave before what the router sends, and the Null-Registers after it
-unfoldable pub shared_network : Network → ℕ → List RpSet → Both → Event → Network
+unfoldable pub shared_network : Network → ℕ → List RpSet → FrontedRouter → Event → Network
 shared_network n r sets b e =
     let copied : Network = with_sent_at n r (sent_before sets b.state e.kind) in
     let given : Event = older.event_given b (event_given sets b.state e) in

@@ -3,13 +3,13 @@
 use Rattle.std.{proofs.Common.{◌||◌, ◌∙◌}}
 use Rattle.pim_macros.{specs.Rows.answers_of}
 use Rattle.law_plane.{specs.{Offload.offload, Offered.unknown_row}}
-use Rattle.pim_mfc.{specs.Shown.{ShownIsKnown, ShownIsUnknown}, proofs.ToldAsShown.{alive_same, core_same, incoming_same, outgoing_same, shown_is_told}}
+use Rattle.pim_mfc.{specs.Shown.{KnownOfferIsShown, UnknownOfferIsShown}, proofs.ToldAsShown.{alive_same, core_same, incoming_same, outgoing_same, shown_is_told}}
 
-pub shown_is_known : ShownIsKnown
+pub shown_is_known : KnownOfferIsShown
 shown_is_known row a shown is shows =
     record { known = shows.known; row = shown_is_told row a shown.row is shows.row }
 
-pub shown_is_unknown : ShownIsUnknown
+pub shown_is_unknown : UnknownOfferIsShown
 unfolding unknown_row offload answers_of
 shown_is_unknown row a shown is shows = record {
   known = shows.known;

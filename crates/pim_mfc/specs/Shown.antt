@@ -39,10 +39,10 @@ TellsOffload None None = Unit {0}
 TellsOffload (Some shown) (Some o) = ShowsOffered shown o
 TellsOffload _ _ = ⊥
 
-abbrev pub ShownIsKnown : Type 0
-ShownIsKnown = (row : SourceAnswers) (a : Answers) (shown : Offered) → ShowsAnswers row a
+abbrev pub KnownOfferIsShown : Type 0
+KnownOfferIsShown = (row : SourceAnswers) (a : Answers) (shown : Offered) → ShowsAnswers row a
     → ShowsOffered shown (known_offer (answers_of row)) → ShowsOffered shown (known_offer a)
 
-abbrev pub ShownIsUnknown : Type 0
-ShownIsUnknown = (row : SourceAnswers) (a : Answers) (shown : Offered) → ShowsAnswers row a
+abbrev pub UnknownOfferIsShown : Type 0
+UnknownOfferIsShown = (row : SourceAnswers) (a : Answers) (shown : Offered) → ShowsAnswers row a
     → ShowsOffered shown (unknown_offer (answers_of row)) → ShowsOffered shown (unknown_offer a)

@@ -1,6 +1,6 @@
 //! What a data plane is offered of any source.
 ghost use Rattle.pim_macros.specs.Rows.{answers_of};
-ghost use Rattle.pim_mfc.specs.Shown.{ShowsOffered, ShownIsKnown, ShownIsUnknown, known_offer, unknown_offer};
+ghost use Rattle.pim_mfc.specs.Shown.{ShowsOffered, KnownOfferIsShown, UnknownOfferIsShown, known_offer, unknown_offer};
 
 use crate::row::{OffloadRow, offload};
 use pim_ifset::IfSet;
@@ -47,11 +47,11 @@ impl Offered {
 /// Where a row shows the answers of a state, what is made of it shows what is offered of a source with a fact.
 #[tactic(auto, using(crate::proofs::OfferedAsShown::shown_is_known))]
 pub fn shown_is_known()
-    ensures { ShownIsKnown }
+    ensures { KnownOfferIsShown }
 {}
 
 /// Where a row shows the answers of a state, what is made of it shows what is offered of a source without a fact.
 #[tactic(auto, using(crate::proofs::OfferedAsShown::shown_is_unknown))]
 pub fn shown_is_unknown()
-    ensures { ShownIsUnknown }
+    ensures { UnknownOfferIsShown }
 {}

@@ -63,7 +63,7 @@ fn part(world: &mut World, alloc: Global, places: &[u32]) -> Result<(), AllocErr
 }
 
 // Removes the neighbours of these places, and does what follows. The result is what is sent.
-fn follow(
+fn settle_parted(
     world: &mut World,
     turn: &mut Turn,
     meter: &mut Meter,
@@ -105,7 +105,7 @@ fn move_in_turn(
     ensures fault { IsOkUnless result Fault.Memory }
 {
     core.world = world_at(turn.alloc, &core.world, next, places, meter)?;
-    let sent = follow(&mut core.world, turn, meter, apart)?;
+    let sent = settle_parted(&mut core.world, turn, meter, apart)?;
     Ok(sent)
 }
 

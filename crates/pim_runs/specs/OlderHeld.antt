@@ -2,7 +2,7 @@
 use Rattle.std.{specs.Prelude.{List, [], ℕ, ◌++◌, ◌∷◌}}
 use Rattle.pim_types.{specs.declared.event.Event.Event}
 use Rattle.pim_model.{specs.{State.opening, Step.state_after}}
-use Rattle.igmp_older.{specs.{Joined.{Both, joined, joined_step}, Laws.nobody_known, declared.setting.OlderHosts.OlderHosts}}
+use Rattle.igmp_older.{specs.{Joined.{FrontedRouter, joined, joined_step}, Laws.nobody_known, declared.setting.OlderHosts.OlderHosts}}
 use Rattle.law_hosts.{specs.Held.IsHeld}
 use Rattle.pim_runs.{specs.{Words.{advance, frame, hex}, ServedChain.{asked_group, first, first_meets}}}
 
@@ -12,13 +12,13 @@ report_two =
     hex "46 00 00 20 00 07 00 00 01 02 2a 7a 0a 08 00 4d ef 01 01 01 94 04 00 00"
     ++ hex "16 00 f9 fc ef 01 01 01"
 
-abbrev pub before : Both
+abbrev pub before : FrontedRouter
 before = nobody_known 100 (OlderHosts.All ∷ []) (state_after (opening first) first_meets)
 
 abbrev pub reports : Event
 reports = frame 0 report_two
 
-abbrev pub known : Both
+abbrev pub known : FrontedRouter
 known = (joined_step before reports).1
 
 abbrev pub meanwhile : List Event

@@ -3,7 +3,7 @@ use Rattle.std.{specs.Option.option_map_or, proofs.Common.{◌≡◌, ◌∙◌,
 use Rattle.pim_ip.{specs.declared.refusal.Refusal.Refusal}
 use Rattle.pim_types.{specs.declared.{event.{Event.Event, EventKind.EventKind}, outcome.{Emission.Emission, Outcome.Outcome, Verdict.Verdict}}}
 use Rattle.pim_model.{specs.{State.State, Step.{outcome_of, ran, run, state_after, step}}}
-use Rattle.igmp_older.{specs.{Joined.{Both, joined, joined_step, known_after, known_if, noted_if, older_of, present_end, rows_of}, Modes.queries_heard, Presence.{Present, doubted, has_room, hosts_on, left, looked, noted_of, report_noted, setting_or_nobody}, Routers.{queried, query_packet}, Translation.translation, declared.{older.{Older.Older, OlderKind.OlderKind}, setting.OlderHosts.OlderHosts}}}
+use Rattle.igmp_older.{specs.{Joined.{FrontedRouter, joined, joined_step, known_after, known_if, noted_if, older_of, present_end, rows_of}, Modes.queries_heard, Presence.{Present, doubted, has_room, hosts_on, left, looked, noted_of, report_noted, setting_or_nobody}, Routers.{queried, query_packet}, Translation.translation, declared.{older.{Older.Older, OlderKind.OlderKind}, setting.OlderHosts.OlderHosts}}}
 use Rattle.pim_session.{specs.{Front.{Front, both, bytes_queried, emission_leaving, emissions_leaving, event_queried, front_after, given, kind_queried, version_on}, Laws.{Fronted, Served, SessionIsJoined, WithoutFrontNothingChanges, front_run, front_step, outcome_left, run_served}}, proofs.SetLaws.without_sets}
 
 -- ---- nothing stands before the router
@@ -41,7 +41,7 @@ unfolding doubted
 noted_if_hosts p i end bytes None = refl
 noted_if_hosts p i end bytes (Some older) = noted_of_hosts older.kind p i older end
 
-after_hosts : (b : Both) (after : State) (kind : EventKind) → (known_after b after kind).hosts ≡ b.present.hosts
+after_hosts : (b : FrontedRouter) (after : State) (kind : EventKind) → (known_after b after kind).hosts ≡ b.present.hosts
 unfolding known_after looked left
 after_hosts b after (EventKind.Frame i bytes) =
     noted_if_hosts b.present i.number (present_end b.state i.number) _
@@ -53,13 +53,13 @@ after_hosts b after (EventKind.Up i) = refl
 after_hosts b after (EventKind.Routes routes) = refl
 after_hosts b after (EventKind.Rps rps) = refl
 
-if_hosts : (b : Both) (after : State) (kind : EventKind) (answer : Result Verdict Refusal) → (known_if b after kind answer).hosts ≡ b.present.hosts
+if_hosts : (b : FrontedRouter) (after : State) (kind : EventKind) (answer : Result Verdict Refusal) → (known_if b after kind answer).hosts ≡ b.present.hosts
 unfolding known_if
 if_hosts b after kind (Ok Verdict.Done) = after_hosts b after kind
 if_hosts b after kind (Ok (Verdict.Ignored reason)) = refl
 if_hosts b after kind (Err refusal) = refl
 
-hosts_stay : (b : Both) (e : Event) → (joined_step b e).1.present.hosts ≡ b.present.hosts
+hosts_stay : (b : FrontedRouter) (e : Event) → (joined_step b e).1.present.hosts ≡ b.present.hosts
 unfolding joined_step
 hosts_stay b e = if_hosts b _ e.kind _
 
@@ -125,7 +125,7 @@ front_is_joined : (f : Front) (s : State) (es : List Event)
 unfolding front_run front_step given front_after joined joined_step
 front_is_joined f s [] = (refl, refl)
 front_is_joined f s (e ∷ es) =
-    let first : Outcome × Both = joined_step (both f s) (event_queried f e) in
+    let first : Outcome × FrontedRouter = joined_step (both f s) (event_queried f e) in
     let next : Front = with_present f first.1.present in
     let later = front_is_joined next first.1.state es in
     let same = events_same f first.1.present es (hosts_stay (both f s) (event_queried f e)) in (

@@ -4,7 +4,7 @@ use Rattle.std.{specs.{Option.option_map_or, Prelude.{ℕ, Bool, true, false, �
 use Rattle.pim_ip.{specs.declared.refusal.Refusal.Refusal}
 use Rattle.pim_types.{specs.declared.{event.{Event.Event, EventKind.EventKind}, outcome.Emission.Emission}}
 use Rattle.pim_model.{specs.{State.{State, iface_count}, Step.step, Sure.needs_no_memory}}
-use Rattle.igmp_older.{specs.{Joined.{Both, event_given, joined_step, rows_of}, Modes.queries_heard, Presence.{Present, hosts_on, rows_told, with_hosts}, Routers.{cut, queried, query_packet}, Translation.translation, declared.{mode.OlderRow.OlderRow, router.ResponseTimes.ResponseTimes, setting.{OlderHosts.OlderHosts, QueryVersion.QueryVersion}}}}
+use Rattle.igmp_older.{specs.{Joined.{FrontedRouter, event_given, joined_step, rows_of}, Modes.queries_heard, Presence.{Present, hosts_on, rows_told, with_hosts}, Routers.{cut, queried, query_packet}, Translation.translation, declared.{mode.OlderRow.OlderRow, router.ResponseTimes.ResponseTimes, setting.{OlderHosts.OlderHosts, QueryVersion.QueryVersion}}}}
 
 -- What is known of older hosts, the versions in which the interfaces query, by their numbers, and the times in which
 -- hosts answer.
@@ -48,7 +48,7 @@ abbrev pub event_queried : Front → Event → Event
 event_queried f e = record { draw = e.draw; kind = kind_queried f e.kind }
 
 -- what the front knows of older hosts, and the state of the router behind it
-abbrev pub both : Front → State → Both
+abbrev pub both : Front → State → FrontedRouter
 both f s = record { present = f.present; state = s }
 
 -- What the router is given: the event itself where nothing stands before the router; else what the joined machine gives

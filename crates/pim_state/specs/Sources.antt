@@ -13,8 +13,8 @@ abbrev pub is_within : Prefix → Key → Bool
 is_within p k = is_some k.source && contains p (source_in k)
 
 -- The source of a fact is in the interface's subnet. There is none of an interface that isn't configured.
-unfoldable pub may_link : State → ℕ → Bool
-may_link s i =
+unfoldable pub has_source_on_subnet : State → ℕ → Bool
+has_source_on_subnet s i =
     option_map_or (λ c. list_any (is_within (subnet c)) (fact_keys s)) (slice_get s.configured.interfaces i) false
 
 -- The sources of a group, in the order of the keys.

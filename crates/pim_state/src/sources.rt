@@ -7,7 +7,7 @@ ghost use Rattle.pim_state.specs.Groups.{gathered, numbers_of};
 ghost use Rattle.igmp_membership.specs.MembershipTables.{membership_keys};
 ghost use Rattle.pim_model.specs.Tables.{keys_in};
 ghost use Rattle.pim_store.specs.PimTables.{stored_keys};
-ghost use Rattle.pim_state.specs.Sources.{is_from, is_within, may_link, sources_among};
+ghost use Rattle.pim_state.specs.Sources.{is_from, is_within, has_source_on_subnet, sources_among};
 
 use crate::world::World;
 use igmp_membership::Membership;
@@ -67,9 +67,9 @@ impl World {
 
     /// Whether a fact's source is in the subnet of the interface. The keys of all facts are gone through. The meter rises
     /// by the nodes visited.
-    #[tactic(auto, unfolding(crate::specs::Sources::may_link))]
-    pub fn may_link(&self, iface: IfaceId, meter: &mut Meter) -> bool
-        ensures { result ≡ may_link self.now iface.number }
+    #[tactic(auto, unfolding(crate::specs::Sources::has_source_on_subnet))]
+    pub fn has_source_on_subnet(&self, iface: IfaceId, meter: &mut Meter) -> bool
+        ensures { result ≡ has_source_on_subnet self.now iface.number }
     {
         match self.interfaces.config(iface) {
             Some(config) => {

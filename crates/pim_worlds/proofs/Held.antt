@@ -4,7 +4,7 @@ use Rattle.pim_types.{specs.{Keys.{group_in, iface_in}, declared.{config.Config.
 use Rattle.pim_model.{specs.{Limits.config_test, State.{State, iface_count, settings_of}, Tables.Table}}
 use Rattle.pim_ifaces.{specs.Interfaces.is_up_key}
 use Rattle.law_settled.{specs.Ready.IsOrdered, proofs.{ListLaws.{each_of_list, list_of_each}, RisingKeys.sorted_of_up}}
-use Rattle.law_states.{specs.{Reload.config_of, Placing.{in_place, number_at, placed, placed_under}}, proofs.Rows.{each_placed, up_placed}}
+use Rattle.law_states.{specs.{Reload.config_of, Placing.{placed_key, number_at, placed, placed_under}}, proofs.Rows.{each_placed, up_placed}}
 use Rattle.pim_state.{specs.Lending.membership_tables}
 use Rattle.pim_worlds.{specs.{Rows.can_hold, Leading.LeadWithin}, proofs.Taken.taken}
 use Rattle.igmp_membership.specs.MembershipTables as membership
@@ -49,14 +49,14 @@ module _ (s : State) (places : List ℕ) (c : Config) where
 
   -- ---- under keys of their kind
 
-  all_placed : {R : Type 0} (p q : Key × R → Bool) → ((e : Key × R) → p e ≡ true → q (in_place places e.0, e.1) ≡ true)
+  all_placed : {R : Type 0} (p q : Key × R → Bool) → ((e : Key × R) → p e ≡ true → q (placed_key places e.0, e.1) ≡ true)
       → (t : Table R) → list_all p t ≡ true → list_all q (placed places t) ≡ true
   all_placed p q goes t e =
       list_of_each q (placed places t)
       (each_placed places (λ x. p x ≡ true) (λ x. q x ≡ true) goes t (each_of_list p t e))
 
   module _ (lead : LeadWithin places (iface_count s) (length c.interfaces)) where
-    up_goes : (k : Key) → is_up_key (iface_count s) k ≡ true → is_up_key (length c.interfaces) (in_place places k) ≡ true
+    up_goes : (k : Key) → is_up_key (iface_count s) k ≡ true → is_up_key (length c.interfaces) (placed_key places k) ≡ true
     up_goes k e =
         let later = second (not k.rpt) _ e in
         let last = second (is_none k.source) _ later in
@@ -72,20 +72,20 @@ module _ (s : State) (places : List ℕ) (c : Config) where
         all_placed (λ x. is_up_key (iface_count s) x.0) (λ x. is_up_key (length c.interfaces) x.0) (λ x up. up_goes x.0 up)
         s.interfaces e
 
-    low_goes : (k : Key) → nat_lt (iface_in k) 120 ≡ true → nat_lt (iface_in (in_place places k)) 120 ≡ true
+    low_goes : (k : Key) → nat_lt (iface_in k) 120 ≡ true → nat_lt (iface_in (placed_key places k)) 120 ≡ true
     low_goes k e = lead.low (iface_in k) e
 
-    group_goes : (k : Key) → membership.is_group_key k ≡ true → membership.is_group_key (in_place places k) ≡ true
+    group_goes : (k : Key) → membership.is_group_key k ≡ true → membership.is_group_key (placed_key places k) ≡ true
     group_goes k e =
         both (membership.is_star_kind k) (nat_lt (number_at places (iface_in k)) 120) (first (membership.is_star_kind k) _ e)
         (low_goes k (second (membership.is_star_kind k) _ e))
 
-    listed_goes : (k : Key) → membership.is_listed_key k ≡ true → membership.is_listed_key (in_place places k) ≡ true
+    listed_goes : (k : Key) → membership.is_listed_key k ≡ true → membership.is_listed_key (placed_key places k) ≡ true
     listed_goes k e =
         both (membership.is_source_kind k) (nat_lt (number_at places (iface_in k)) 120) (first (membership.is_source_kind k) _ e)
         (low_goes k (second (membership.is_source_kind k) _ e))
 
-    assert_goes : (k : Key) → store.is_assert_key k ≡ true → store.is_assert_key (in_place places k) ≡ true
+    assert_goes : (k : Key) → store.is_assert_key k ≡ true → store.is_assert_key (placed_key places k) ≡ true
     assert_goes k e =
         both (nat_lt (number_at places (iface_in k)) 120) (not k.rpt)
         (low_goes k (first (nat_lt (iface_in k) 120) _ e)) (second (nat_lt (iface_in k) 120) _ e)

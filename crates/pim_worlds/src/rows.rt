@@ -1,5 +1,5 @@
 //! Rows at other places, and rows as lists.
-ghost use Rattle.law_states.specs.Placing.{in_place, placed};
+ghost use Rattle.law_states.specs.Placing.{placed_key, placed};
 ghost use Rattle.std.specs.Prelude.{◌≡◌, IfOk};
 
 use crate::numbers::number_at;
@@ -20,8 +20,8 @@ pub(crate) fn copied<T: Copy>(alloc: Global, values: &[T]) -> Result<Vec<T>, All
 }
 
 // The key of a fact whose interface goes to another place.
-fn in_place(places: &[u32], key: Key) -> Key
-    ensures { result ≡ in_place places.now key }
+fn placed_key(places: &[u32], key: Key) -> Key
+    ensures { result ≡ placed_key places.now key }
 {
     let iface = IfaceId {
         number: number_at(places, key.iface.number),
@@ -39,7 +39,7 @@ fn placed<R: Copy>(
 {
     let mut table = Facts::new(alloc);
     for (key, row) in rows {
-        table.put(in_place(places, *key), *row)?;
+        table.put(placed_key(places, *key), *row)?;
     }
     Ok(table)
 }

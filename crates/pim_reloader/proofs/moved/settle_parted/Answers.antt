@@ -3,7 +3,7 @@ use Rattle.pim_types.{specs.declared.outcome.Emission.Emission}
 use Rattle.pim_model.{specs.State.State}
 use Rattle.pim_settling.{specs.Settling.settled_by}
 use Rattle.pim_reloader.{proofs.Placed.parted_follows}
-use Rattle.pim_reloader.proofs.moved.follow.Goals as goal
+use Rattle.pim_reloader.proofs.moved.settle_parted.Goals as goal
 
 pub returns-clause-state : goal.returns-clause-state
 returns-clause-state c =
