@@ -7,14 +7,13 @@ use Rattle.pim_model.{specs.{Cache.{Answers, cached}, Cause.is_on_link, Judging.
 use Rattle.pim_rows.{specs.{Printed.rows, declared.table.{Row.Row, Table.Table}}}
 use Rattle.law_plane.{specs.{Keeping.keep, Offered.{Offered, offered}}}
 use Rattle.law_states.{specs.History.Given}
-use Rattle.law_events.{specs.Named.event_named}
-use Rattle.pim_event.{specs.{Costs.IsCheap, Disturbing.event_disturbed, Listing.ListsSame, Replacing.may_differ, Staying.OffersStay}}
+use Rattle.pim_event.{specs.Replacing.may_differ}
 use Rattle.pim_worlds.{specs.Resuming.IsResumable}
 use Rattle.igmp_older_saved.{specs.{Reading.{held_reading, held_restore_test}, Refused.held_refusal_number, Text.{Held, held_text, FitsHeld}, declared.refusal.HeldRefusal.HeldRefusal}}
-use Rattle.pim_router.{specs.{Asked.LeadsOn, Standing.{Standing, begun, nothing_shown, standing, with_state}}}
+use Rattle.pim_router.{specs.{Asked.LeadsOn, Standing.{Standing, begun, nothing_shown, standing, with_state}, Stepped.TellsEvent}}
 use Rattle.pim_guard.{specs.Guard.is_stopped}
 use Rattle.pim_anycast.{specs.{Sets.are_rp_sets, declared.set.RpSet.RpSet}}
-use Rattle.pim_session.{specs.{Front.{Front, hosts_set, interface_test, older_rows, version_set}, Leaving.{GoesOnFrom, LeftIsAsked}, Saved.{front_resumed, saved_parts}, Session.ShownSession, Shared.{event_in, front_in, is_sure_in, leaving, left_in, seen_in, seen_leaving}, Untaken.{IsStill, has_untaken}}}
+use Rattle.pim_session.{specs.{Front.{Front, hosts_set, interface_test, older_rows, version_set}, Leaving.{GoesOnFrom, LeftIsAsked}, Saved.{front_resumed, saved_parts}, Session.ShownSession, Shared.{event_in, front_in, is_sure_in, leaving, left_in, seen_in, seen_leaving}, Untaken.{IsStill, SettingsStay, has_untaken}}}
 use Rattle.igmp_older.{specs.declared.{mode.OlderRow.OlderRow, setting.{OlderHosts.OlderHosts, QueryVersion.QueryVersion}}}
 use Rattle.pim_types.{specs.declared.{config.Config.Config, event.Event.Event, fact.Key.Key, outcome.Emission.Emission}}
 use Rattle.pim_c.{specs.{Returned.{answer_number, bytes_in, kept_number, no_interface_number, set_number, c_packet, written_into}, Written.{NoBytesWritten, Untouched, Unwritten, ValueWritten}, declared.returned.{Forwarding.Forwarding, Interfaces.Interfaces, Packet.Packet, PlaneRow.PlaneRow}}}
@@ -45,11 +44,7 @@ lost s = record s { router = nothing_shown; front = None }
 abbrev pub Went : ShownSession → Standing → Event → ShownSession → Type 0
 Went s r e left = (left.router.standing ≡ Some (standing (step r.state e)))
     × IfSome left.router.standing (λ after. LeadsOn r.state (Given.Happening e) after.state)
-    × IsCheap r.state e left.router.probes left.router.touched
-    × ListsSame left.router.changed (event_named r.state e)
-    × (left.router.disturbed ≡ event_disturbed r.state e)
-    × OffersStay left.router.disturbed r.state (step r.state e).state
-    × (left.sets ≡ s.sets) × (left.guard ≡ s.guard) × (left.rows ≡ s.rows) × (left.older_rows ≡ s.older_rows)
+    × TellsEvent r.state e left.router × SettingsStay s left × (left.rows ≡ s.rows) × (left.older_rows ≡ s.older_rows)
 
 -- The event of a packet that a data plane saw goes to the router as it came. What leaves is what the router sends, and
 -- Null-Registers to the others of a set. Each copy that leaves has its cause in what led to the router's state.
@@ -80,7 +75,7 @@ UnlessUntaken false s answer left taken = taken
 -- What a session shows after an event that its guard stopped: its router is in the same state and lists nothing as
 -- changed, nothing is to be sent, and all else is as it was.
 abbrev pub Stayed : ShownSession → ShownSession → Type 0
-Stayed s left = IsStill s.router left.router × (left.front ≡ s.front) × (left.sets ≡ s.sets) × (left.guard ≡ s.guard) × (left.sent ≡ s.sent)
+Stayed s left = IsStill s.router left.router × (left.front ≡ s.front) × SettingsStay s left × (left.sent ≡ s.sent)
     × (left.rows ≡ s.rows) × (left.older_rows ≡ s.older_rows)
 
 -- An event that the guard stops doesn't come to the router.

@@ -1,26 +1,20 @@
 -- What a reload does to a handle and answers.
 use Rattle.std.{specs.Prelude.{[], Err, IfSome, List, None, Ok, Option, Result, Some, ℕ, ◌≡◌, ◌⊎◌}}
-use Rattle.pim_event.{specs.Replacing.NoneReplaced}
 use Rattle.pim_model.{specs.{Limits.config_test, State.State}}
 use Rattle.law_states.{specs.{History.Given, Reloading.reload}}
-use Rattle.pim_reloader.{specs.Listing.ListsFacts}
-use Rattle.pim_router.{specs.{Asked.LeadsOn, Standing.{Standing, beginning}}}
-use Rattle.pim_session.{specs.{Front.{Front, emissions_leaving}, Reloaded.front_reloaded, Session.ShownSession, Shared.reload_tested, Untaken.has_untaken, declared.refused.ReloadRefusal.ReloadRefusal}}
+use Rattle.pim_router.{specs.{Asked.LeadsOn, Standing.Standing, Stepped.PutUnder}}
+use Rattle.pim_session.{specs.{Front.{Front, emissions_leaving}, Reloaded.front_reloaded, Session.ShownSession, Shared.reload_tested, Untaken.{SettingsStay, has_untaken}, declared.refused.ReloadRefusal.ReloadRefusal}}
 use Rattle.pim_types.{specs.declared.{config.Config.Config, outcome.Emission.Emission}}
-use Rattle.pim_state.{specs.declared.touched.Touched.Touched}
 use Rattle.pim_c.{specs.{Called.{AtSession, Refused, UnlessUntaken, lost}, Returned.reload_number, Written.Untouched}}
 
 -- What a session shows after its router was put under another configuration, by what that makes of the router's state and
 -- sends, and by what stands before the router then: all sources with a fact before or after it are listed, all count as
 -- disturbed, and no rows are kept. What led to the router's state goes on with the reload.
 pub record Put (given : Given) (made : State × List Emission) (before : Option Front) (s : ShownSession) (r : Standing) (left : ShownSession) : Type 0 where
-  pub standing : left.router.standing ≡ Some (beginning made.0)
+  pub put : PutUnder r.state made.0 left.router
   pub led : IfSome left.router.standing (λ after. LeadsOn r.state given after.state)
-  pub changed : ListsFacts r.state made.0 left.router.changed
-  pub disturbed : left.router.disturbed ≡ record { touched = Touched.All; replaced = NoneReplaced }
   pub front : left.front ≡ before
-  pub sets : left.sets ≡ s.sets
-  pub guard : left.guard ≡ s.guard
+  pub settings : SettingsStay s left
   pub sent : left.sent ≡ emissions_leaving s.front made.1
   pub rows : left.rows ≡ []
   pub older_rows : left.older_rows ≡ []

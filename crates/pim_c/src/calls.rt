@@ -72,7 +72,7 @@ pub extern "C" fn viq_core_reload(
     let Some(mut session) = router.take(alloc) else {
         return NO_ROUTER;
     };
-    let answer = session.reload(alloc, draw, &config);
+    let answer = session.reload(draw, &config);
     router.put(session);
     match answer {
         Ok(Ok(())) => DONE,
@@ -103,7 +103,7 @@ pub extern "C" fn viq_core_reload_places(
     let Some(mut session) = router.take(alloc) else {
         return NO_ROUTER;
     };
-    let answer = session.reload_places(alloc, draw, &config, places.as_slice());
+    let answer = session.reload_places(draw, &config, places.as_slice());
     router.put(session);
     match answer {
         Ok(Ok(())) => DONE,
@@ -399,7 +399,7 @@ pub extern "C" fn viq_core_older(alloc: Global, router: &mut Handle, iface: u32,
     let Some(mut session) = router.take(alloc) else {
         return NO_ROUTER;
     };
-    let answer = session.set_older_hosts(alloc, IfaceId { number: iface }, hosts);
+    let answer = session.set_older_hosts(IfaceId { number: iface }, hosts);
     router.put(session);
     match answer {
         Ok(answer) => set_number(answer),
@@ -423,7 +423,7 @@ pub extern "C" fn viq_core_query_version(
     let Some(mut session) = router.take(alloc) else {
         return NO_ROUTER;
     };
-    let answer = session.set_query_version(alloc, IfaceId { number: iface }, version);
+    let answer = session.set_query_version(IfaceId { number: iface }, version);
     router.put(session);
     match answer {
         Ok(answer) => set_number(answer),
@@ -482,7 +482,7 @@ pub extern "C" fn viq_core_older_read(alloc: Global, router: &mut Handle) -> u32
     let Some(mut session) = router.take(alloc) else {
         return NO_ROUTER;
     };
-    let answer = session.read_older(alloc);
+    let answer = session.read_older();
     router.put(session);
     match answer {
         Ok(()) => DONE,
@@ -721,12 +721,14 @@ pub extern "C" fn viq_core_seen(
     ensures { Seen router.old.place.inside (seen_event draw (iface_of iface) group source) group source result router.new.place.inside }
 {
     let iface = IfaceId { number: iface };
-    let source = Addr { bits: source };
-    let group = Addr { bits: group };
+    let name = SourceGroup {
+        source: Addr { bits: source },
+        group: Addr { bits: group },
+    };
     let Some(mut session) = router.take(alloc) else {
         return NO_ROUTER;
     };
-    let answer = answer_number(session.packet_seen(alloc, draw, iface, source, group));
+    let answer = answer_number(session.packet_seen(draw, iface, name));
     router.put(session);
     answer
 }

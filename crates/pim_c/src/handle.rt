@@ -60,7 +60,7 @@ impl Handle {
         let Some(mut session) = self.take(alloc) else {
             return NO_ROUTER;
         };
-        let answer = answer_number(session.step(alloc, event));
+        let answer = answer_number(session.step(event));
         self.put(session);
         answer
     }

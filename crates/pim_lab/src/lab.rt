@@ -132,7 +132,7 @@ impl<W: Wire> Lab<W> {
             } => {
                 let at = At { number, router };
                 match self.renewal_of(next, places)? {
-                    Ok((reloaded, renewal)) => self.reload(at, draw, reloaded, renewal, lines),
+                    Ok(next) => self.reload(at, draw, next, lines),
                     Err(BadRpSet) => self.refuse_sets(at, lines),
                 }
             }
@@ -231,12 +231,12 @@ impl<W: Wire> Lab<W> {
         &mut self,
         at: At,
         draw: u32,
-        reloaded: Reloaded,
-        renewal: Renewal,
+        next: (Reloaded, Renewal),
         lines: &mut Lines,
     ) -> Result<(), Trouble>
         ensures { IfErr result (λ t. IsFault t) }
     {
+        let (reloaded, renewal) = next;
         let outcome = self.net.reload(at.router, draw, renewal)?;
         let is_done = outcome.answer.is_ok();
         self.print(at, outcome, lines)?;

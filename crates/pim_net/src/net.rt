@@ -32,7 +32,6 @@ pub type NetLog = Vec<Outcome>;
 /// never.
 #[derive(Drop)]
 pub struct Net<W> {
-    alloc: Global,
     failed: bool,
     network: Network,
     // the first port of each router
@@ -69,7 +68,6 @@ impl<W: Wire> Net<W> {
     {
         match Network::open(alloc, nodes)? {
             Ok((network, ports)) => Ok(Ok(Net {
-                alloc,
                 failed: false,
                 network,
                 ports,
@@ -113,13 +111,7 @@ impl<W: Wire> Net<W> {
         if self.failed {
             return Err(Fault::Failed);
         }
-        let ran = run_all(
-            self.alloc,
-            &mut self.network,
-            &mut self.wire,
-            &self.ports,
-            moves,
-        );
+        let ran = run_all(&mut self.network, &mut self.wire, &self.ports, moves);
         self.failed = matches!(ran, Err(Fault::Memory));
         ran
     }
@@ -143,19 +135,12 @@ impl<W: Wire> Net<W> {
         }
         match iface {
             Some(iface) => fetch(
-                self.alloc,
                 &self.network,
                 &mut self.wire,
                 &self.ports,
                 (router, iface, frame),
             ),
-            None => fetch_unicast(
-                self.alloc,
-                &self.network,
-                &mut self.wire,
-                &self.ports,
-                (router, frame),
-            ),
+            None => fetch_unicast(&self.network, &mut self.wire, &self.ports, (router, frame)),
         }
     }
 
@@ -252,7 +237,6 @@ impl<W: Wire> Net<W> {
 
 // Does the moves one after the other. After a failure of the wire those before it are done.
 fn run_all<W: Wire>(
-    alloc: Global,
     network: &mut Network,
     wire: &mut W,
     ports: &[u16],
@@ -272,16 +256,15 @@ fn run_all<W: Wire>(
     ensures fault { IfSome network.old (λ n. IfErr result (IsFaultOver (W.failures wire.old) (W.failures wire.new))) }
     ensures sure { moves.now ≡ [] → IsOk result }
 {
-    let mut log = Vec::new(alloc);
+    let mut log = Vec::new(network.alloc());
     for one in moves {
-        log.push(make(alloc, network, wire, ports, one)?)?;
+        log.push(make(network, wire, ports, one)?)?;
     }
     Ok(log)
 }
 
 // Does a move. Where the wire fails, the network is unchanged.
 fn make<W: Wire>(
-    alloc: Global,
     network: &mut Network,
     wire: &mut W,
     ports: &[u16],
@@ -301,25 +284,17 @@ fn make<W: Wire>(
             iface,
             frame,
             draw,
-        } => deliver(
-            alloc,
-            network,
-            wire,
-            ports,
-            (*router, *iface, *frame),
-            *draw,
-        ),
+        } => deliver(network, wire, ports, (*router, *iface, *frame), *draw),
         Move::DeliverUnicast {
             router,
             frame,
             draw,
-        } => deliver_unicast(alloc, network, wire, ports, (*router, *frame), *draw),
+        } => deliver_unicast(network, wire, ports, (*router, *frame), *draw),
     }
 }
 
 // Delivers a frame to an interface of a router.
 fn deliver<W: Wire>(
-    alloc: Global,
     network: &mut Network,
     wire: &mut W,
     ports: &[u16],
@@ -335,16 +310,15 @@ fn deliver<W: Wire>(
 {
     let (router, iface, frame) = place;
     let Some(delivery) = network.to_interface(router, iface, frame) else {
-        return Ok(bad_move(alloc));
+        return Ok(bad_move(network.alloc()));
     };
     let port = u32::from(first_port(ports, router)) + delivery.place;
-    let bytes = carry(alloc, wire, port, delivery.bytes)?;
+    let bytes = carry(network.alloc(), wire, port, delivery.bytes)?;
     network.receive(router, draw, EventKind::Frame { iface, bytes })
 }
 
 // Delivers a frame to a router's own address.
 fn deliver_unicast<W: Wire>(
-    alloc: Global,
     network: &mut Network,
     wire: &mut W,
     ports: &[u16],
@@ -360,16 +334,15 @@ fn deliver_unicast<W: Wire>(
 {
     let (router, frame) = place;
     let Some(delivery) = network.to_router(router, frame) else {
-        return Ok(bad_move(alloc));
+        return Ok(bad_move(network.alloc()));
     };
     let port = u32::from(first_port(ports, router)) + delivery.place;
-    let bytes = carry(alloc, wire, port, delivery.bytes)?;
+    let bytes = carry(network.alloc(), wire, port, delivery.bytes)?;
     network.receive(router, draw, EventKind::Unicast { bytes })
 }
 
 // What the wire gives of a frame that is sent to an interface of a router.
 fn fetch<W: Wire>(
-    alloc: Global,
     network: &Network,
     wire: &mut W,
     ports: &[u16],
@@ -383,13 +356,12 @@ fn fetch<W: Wire>(
         return Ok(None);
     };
     let port = u32::from(first_port(ports, router)) + delivery.place;
-    let bytes = carry(alloc, wire, port, delivery.bytes)?;
+    let bytes = carry(network.alloc(), wire, port, delivery.bytes)?;
     Ok(Some(bytes))
 }
 
 // What the wire gives of a frame that is sent to a router's own address.
 fn fetch_unicast<W: Wire>(
-    alloc: Global,
     network: &Network,
     wire: &mut W,
     ports: &[u16],
@@ -403,7 +375,7 @@ fn fetch_unicast<W: Wire>(
         return Ok(None);
     };
     let port = u32::from(first_port(ports, router)) + delivery.place;
-    let bytes = carry(alloc, wire, port, delivery.bytes)?;
+    let bytes = carry(network.alloc(), wire, port, delivery.bytes)?;
     Ok(Some(bytes))
 }
 

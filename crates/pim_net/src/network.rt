@@ -56,6 +56,11 @@ impl Model for Network {
 const MOST_ROUTERS: usize = 64;
 
 impl Network {
+    /// What its memory comes from.
+    pub(crate) fn alloc(&self) -> Global {
+        self.alloc
+    }
+
     /// The network of these nodes, in which nothing was sent yet, and the first port of each.
     pub(crate) fn open(
         alloc: Global,

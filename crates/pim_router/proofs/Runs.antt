@@ -3,10 +3,10 @@ use Rattle.std.{proofs.{Common.{◌≡◌, ℕ, Bool, false, Some, suc, ◌+◌,
 use Rattle.pim_types.{specs.declared.{event.Event.Event, fact.Key.Key, outcome.Outcome.Outcome, config.Config.Config}}
 use Rattle.law_events.{specs.Rest.IsAtRest}
 use Rattle.law_streams.{specs.Bounded.counted_beside_asserts}
-use Rattle.pim_event.{specs.Replacing.Disturbance}
+use Rattle.pim_event.{specs.{Costs.IsLastCheap, Disturbing.IsLastDisturbed, Listing.IsLastListed, Replacing.Disturbance, Staying.LastOffersStay}}
 use Rattle.pim_model.{specs.{Cause.OutcomesAreAsked, Full.counted, State.{State, opening}, Step.{outcome_of, ran, run, state_after, step}}}
 use Rattle.law_states.{specs.History.{Given, IsLedTo, greatest_count, greatest_limit, past_given}, proofs.{Asked.nothing_flows_unasked_over_reloads, Counts.counted_stay_within_the_greatest, Limits.facts_stay_within_the_greatest}}
-use Rattle.pim_router.{specs.Standing.{Shown, Standing, nothing_shown}, proofs.Shown.stands}
+use Rattle.pim_router.{specs.{Standing.{Shown, Standing, nothing_shown}, Stepped.TellsLast}, proofs.Shown.stands}
 
 -- what was told with what is left is all of it, and the router is at rest
 pub record Runs (first : State) (events : List Event) (s : State) (told : List Outcome)
@@ -72,6 +72,31 @@ is_asked shown failed r probes touched changed disturbed events outcomes shows w
     → OutcomesAreAsked (past_given [] (opening c) before) s events outcomes)
     (λ c before led. subst (λ (os : List Outcome). OutcomesAreAsked (past_given [] (opening c) before) r.state events os) (sym are)
     (nothing_flows_unasked_over_reloads c before r.state events led))
+
+tells_last : (s : State) (events : List Event) (left : Shown)
+    → IsLastCheap s events left.probes left.touched → IsLastListed s events left.changed
+    → IsLastDisturbed s events left.disturbed → LastOffersStay s events left.disturbed → TellsLast s events left
+tells_last s [] left cheap lists disturbs stays = tt
+tells_last s (e ∷ []) left cheap lists disturbs stays = record {
+  cheap = cheap;
+  changed = lists;
+  disturbed = disturbs;
+  stays = stays;
+}
+tells_last s (e ∷ f ∷ es) left cheap lists disturbs stays =
+    tells_last (step s e).state (f ∷ es) left cheap lists disturbs stays
+
+-- a router tells of the last event of a run
+pub is_told : (shown : Shown) (failed : Bool) (r : Standing) (probes touched : ℕ) (changed : List Key) (disturbed : Disturbance)
+    (events : List Event) (left : Shown)
+    → (if failed then nothing_shown
+    else record { standing = Some r; probes = probes; touched = touched; changed = changed; disturbed = disturbed }) ≡ shown
+    → failed ≡ false → IsLastCheap r.state events left.probes left.touched → IsLastListed r.state events left.changed
+    → IsLastDisturbed r.state events left.disturbed → LastOffersStay r.state events left.disturbed
+    → IfSome shown.standing (λ x. TellsLast x.state events left)
+is_told shown failed r probes touched changed disturbed events left shows works cheap lists disturbs stays =
+    stands shown failed r probes touched changed disturbed shows works (λ (s : State). TellsLast s events left)
+    (tells_last r.state events left cheap lists disturbs stays)
 
 -- after a run the greatest limit bounds the facts, whatever events and reloads came before it
 pub is_within : (shown : Shown) (failed : Bool) (r : Standing) (probes touched : ℕ) (changed : List Key) (disturbed : Disturbance)

@@ -1,5 +1,4 @@
 //! The router, as its users call it.
-ghost use Rattle.law_events.specs.Named.{event_named};
 ghost use Rattle.law_events.specs.Rest.{IsAtRest};
 ghost use Rattle.law_plane.specs.Keeping.{keep};
 ghost use Rattle.law_plane.specs.Offered.{offered};
@@ -7,11 +6,8 @@ ghost use Rattle.law_plane.specs.Seen.{seen_event};
 ghost use Rattle.law_states.specs.History.{Given, IsLedTo, greatest_count, greatest_limit, past_given};
 ghost use Rattle.law_states.specs.Reload.{config_of};
 ghost use Rattle.law_streams.specs.Bounded.{counted_beside_asserts};
-ghost use Rattle.pim_event.specs.Costs.{IsCheap, IsLastCheap};
-ghost use Rattle.pim_event.specs.Disturbing.{IsLastDisturbed, event_disturbed};
-ghost use Rattle.pim_event.specs.Listing.{IsLastListed, ListsSame};
 ghost use Rattle.pim_event.specs.Replacing.{may_differ};
-ghost use Rattle.pim_event.specs.Staying.{LastOffersStay, OffersStay};
+ghost use Rattle.pim_event.specs.Staying.{OffersStay};
 ghost use Rattle.pim_event.specs.Stepping.{Steps};
 ghost use Rattle.pim_fanout.specs.Named.{keys_of};
 ghost use Rattle.pim_fanout.specs.Refreshing.{touches};
@@ -31,7 +27,8 @@ ghost use Rattle.pim_model.specs.Sure.{needs_no_memory};
 ghost use Rattle.pim_model.specs.Timers.{next_moment};
 ghost use Rattle.pim_model.specs.Unicast.{rpf_interface_rp};
 ghost use Rattle.pim_router.specs.Asked.{LeadsOn, SentIsAsked};
-ghost use Rattle.pim_router.specs.Standing.{begun, nothing_shown, last_copies, standing, standing_after, with_state};
+ghost use Rattle.pim_router.specs.Standing.{begun, nothing_shown, last_copies, standing_after, with_state};
+ghost use Rattle.pim_router.specs.Stepped.{Faults, Stepped, TellsLast};
 ghost use Rattle.pim_router.specs.Stepping.{RunsTo, Stands, disturbance};
 ghost use Rattle.pim_rows.specs.Printed.{rows};
 ghost use Rattle.pim_types.specs.Keys.{key_cmp};
@@ -39,7 +36,7 @@ ghost use Rattle.pim_types.specs.declared.config.Config.{Config as ConfigValue};
 ghost use Rattle.pim_types.specs.declared.outcome.Emission.{Emission as EmissionValue};
 ghost use Rattle.std.specs.List.Sorted.{IsStrictlySortedBy};
 ghost use Rattle.std.specs.Option.{option_map_or};
-ghost use Rattle.std.specs.Prelude.{◌≡◌, ◌*◌, ◌+◌, ◌<◌, ◌≤◌, ◌++◌, ◌↔◌, [], Err, IfErr, IfOk, IfSome, IsOk, IsOkUnless, IsTrue, List, None, Ok, OnErr, OnOk, Some, length, min, option_and_then, true};
+ghost use Rattle.std.specs.Prelude.{◌≡◌, ◌*◌, ◌+◌, ◌<◌, ◌≤◌, ◌++◌, [], Err, IfErr, IfOk, IfSome, IsOk, IsTrue, List, None, Ok, OnErr, OnOk, Some, length, min, option_and_then, true};
 ghost use Rattle.std.specs.Vec.{vec_capacity, vec_len};
 
 mod bootstraps;
@@ -138,6 +135,11 @@ impl Router {
             })),
             Err(refusal) => Ok(Err(refusal)),
         }
+    }
+
+    /// What the router's memory comes from.
+    pub fn alloc(&self) -> Global {
+        self.core.room.alloc
     }
 
     /// The timestamp, in ms, at which the next timer expires: an `Advance` to it lets that timer expire. `None` where
@@ -280,8 +282,7 @@ impl Router {
     /// want of memory.
     pub fn rows(&self, table: Table) -> Result<Vec<Row>, Fault>
         ensures rows { IfSome self.now.standing (λ r. IfOk result (λ found. found.items ≡ rows r.state table)) }
-        ensures failed { (result ≡ Err Fault.Failed) ↔ (self.now.standing ≡ None) }
-        ensures fault { IfSome self.now.standing (λ r. IsOkUnless result Fault.Memory) }
+        ensures faults { Faults result self.now.standing }
     {
         if self.failed {
             return Err(Fault::Failed);
@@ -301,22 +302,11 @@ impl Router {
         event: &Event,
         emissions: &mut Vec<Emission>,
     ) -> Result<Result<Verdict, Refusal>, Fault>
-        ensures answer { IfSome self.old.standing (λ r. IfOk result (λ answer. answer ≡ (step r.state event.now).answer)) }
-        ensures state { IfSome self.old.standing (λ r. OnOk result (self.new.standing ≡ Some (standing (step r.state event.now)))) }
-        ensures sent { IfSome self.old.standing (λ r. OnOk result (emissions.new.items
-            ≡ emissions.old.items ++ (step r.state event.now).emissions)) }
-        ensures cheap { IfSome self.old.standing (λ r. OnOk result
-            (IsCheap r.state event.now self.new.probes self.new.touched)) }
-        ensures changed { IfSome self.old.standing (λ r. OnOk result
-            (ListsSame self.new.changed (event_named r.state event.now))) }
-        ensures disturbed { IfSome self.old.standing (λ r. OnOk result
-            (self.new.disturbed ≡ event_disturbed r.state event.now)) }
-        ensures stays { IfSome self.old.standing (λ r. OnOk result
-            (OffersStay self.new.disturbed r.state (step r.state event.now).state)) }
+        ensures stepped { IfSome self.old.standing (λ r. IfOk result (λ answer.
+            Stepped r.state event.now emissions.old.items answer self.new emissions.new.items)) }
         ensures failing { OnErr result (self.new ≡ nothing_shown) }
         ensures silent { OnErr result (emissions.new.items ≡ emissions.old.items) }
-        ensures failed { (result ≡ Err Fault.Failed) ↔ (self.old.standing ≡ None) }
-        ensures fault { IfSome self.old.standing (λ r. IsOkUnless result Fault.Memory) }
+        ensures faults { Faults result self.old.standing }
         ensures sure { IfSome self.old.standing (λ r. IsTrue (needs_no_memory (step r.state event.now).answer)
             → IsOk result) }
     {
@@ -331,22 +321,11 @@ impl Router {
         event: &LentEvent<'_>,
         emissions: &mut Vec<Emission>,
     ) -> Result<Result<Verdict, Refusal>, Fault>
-        ensures answer { IfSome self.old.standing (λ r. IfOk result (λ answer. answer ≡ (step r.state event.now).answer)) }
-        ensures state { IfSome self.old.standing (λ r. OnOk result (self.new.standing ≡ Some (standing (step r.state event.now)))) }
-        ensures sent { IfSome self.old.standing (λ r. OnOk result (emissions.new.items
-            ≡ emissions.old.items ++ (step r.state event.now).emissions)) }
-        ensures cheap { IfSome self.old.standing (λ r. OnOk result
-            (IsCheap r.state event.now self.new.probes self.new.touched)) }
-        ensures changed { IfSome self.old.standing (λ r. OnOk result
-            (ListsSame self.new.changed (event_named r.state event.now))) }
-        ensures disturbed { IfSome self.old.standing (λ r. OnOk result
-            (self.new.disturbed ≡ event_disturbed r.state event.now)) }
-        ensures stays { IfSome self.old.standing (λ r. OnOk result
-            (OffersStay self.new.disturbed r.state (step r.state event.now).state)) }
+        ensures stepped { IfSome self.old.standing (λ r. IfOk result (λ answer.
+            Stepped r.state event.now emissions.old.items answer self.new emissions.new.items)) }
         ensures failing { OnErr result (self.new ≡ nothing_shown) }
         ensures silent { OnErr result (emissions.new.items ≡ emissions.old.items) }
-        ensures failed { (result ≡ Err Fault.Failed) ↔ (self.old.standing ≡ None) }
-        ensures fault { IfSome self.old.standing (λ r. IsOkUnless result Fault.Memory) }
+        ensures faults { Faults result self.old.standing }
         ensures asked { IfSome self.old.standing (λ r. IfOk result (λ answer. IfSome self.new.standing (λ after.
             (sent : List EmissionValue) → emissions.new.items ≡ emissions.old.items ++ sent
             → SentIsAsked r.state event.now answer sent after.copies))) }
@@ -364,22 +343,11 @@ impl Router {
         event: &LentEvent<'_>,
         emissions: &mut Vec<Emission>,
     ) -> Result<Result<Verdict, Refusal>, Fault>
-        ensures answer { IfSome self.old.standing (λ r. IfOk result (λ answer. answer ≡ (step r.state event.now).answer)) }
-        ensures state { IfSome self.old.standing (λ r. OnOk result (self.new.standing ≡ Some (standing (step r.state event.now)))) }
-        ensures sent { IfSome self.old.standing (λ r. OnOk result (emissions.new.items
-            ≡ emissions.old.items ++ (step r.state event.now).emissions)) }
-        ensures cheap { IfSome self.old.standing (λ r. OnOk result
-            (IsCheap r.state event.now self.new.probes self.new.touched)) }
-        ensures changed { IfSome self.old.standing (λ r. OnOk result
-            (ListsSame self.new.changed (event_named r.state event.now))) }
-        ensures disturbed { IfSome self.old.standing (λ r. OnOk result
-            (self.new.disturbed ≡ event_disturbed r.state event.now)) }
-        ensures stays { IfSome self.old.standing (λ r. OnOk result
-            (OffersStay self.new.disturbed r.state (step r.state event.now).state)) }
+        ensures stepped { IfSome self.old.standing (λ r. IfOk result (λ answer.
+            Stepped r.state event.now emissions.old.items answer self.new emissions.new.items)) }
         ensures failing { OnErr result (self.new ≡ nothing_shown) }
         ensures silent { OnErr result (emissions.new.items ≡ emissions.old.items) }
-        ensures failed { (result ≡ Err Fault.Failed) ↔ (self.old.standing ≡ None) }
-        ensures fault { IfSome self.old.standing (λ r. IsOkUnless result Fault.Memory) }
+        ensures faults { Faults result self.old.standing }
         ensures sure { IfSome self.old.standing (λ r. IsTrue (needs_no_memory (step r.state event.now).answer)
             → IsOk result) }
     {
@@ -402,38 +370,25 @@ impl Router {
         &mut self,
         draw: u32,
         iface: IfaceId,
-        source: Addr,
-        group: Addr,
+        name: SourceGroup,
         emissions: &mut Vec<Emission>,
     ) -> Result<Result<Verdict, Refusal>, Fault>
-        ensures answer { IfSome self.old.standing (λ r. IfOk result (λ answer.
-            answer ≡ (step r.state (seen_event draw iface group.bits source.bits)).answer)) }
-        ensures state { IfSome self.old.standing (λ r. OnOk result (self.new.standing
-            ≡ Some (standing (step r.state (seen_event draw iface group.bits source.bits))))) }
-        ensures sent { IfSome self.old.standing (λ r. OnOk result (emissions.new.items ≡ emissions.old.items
-            ++ (step r.state (seen_event draw iface group.bits source.bits)).emissions)) }
-        ensures cheap { IfSome self.old.standing (λ r. OnOk result (IsCheap r.state
-            (seen_event draw iface group.bits source.bits) self.new.probes self.new.touched)) }
-        ensures changed { IfSome self.old.standing (λ r. OnOk result (ListsSame self.new.changed
-            (event_named r.state (seen_event draw iface group.bits source.bits)))) }
-        ensures disturbed { IfSome self.old.standing (λ r. OnOk result (self.new.disturbed
-            ≡ event_disturbed r.state (seen_event draw iface group.bits source.bits))) }
-        ensures stays { IfSome self.old.standing (λ r. OnOk result (OffersStay self.new.disturbed r.state
-            (step r.state (seen_event draw iface group.bits source.bits)).state)) }
+        ensures stepped { IfSome self.old.standing (λ r. IfOk result (λ answer.
+            Stepped r.state (seen_event draw iface name.group.bits name.source.bits) emissions.old.items answer self.new
+            emissions.new.items)) }
         ensures asked { IfSome self.old.standing (λ r. IfOk result (λ answer. IfSome self.new.standing (λ after.
             (sent : List EmissionValue) → emissions.new.items ≡ emissions.old.items ++ sent
-            → SentIsAsked r.state (seen_event draw iface group.bits source.bits) answer sent after.copies))) }
+            → SentIsAsked r.state (seen_event draw iface name.group.bits name.source.bits) answer sent after.copies))) }
         ensures led { IfSome self.old.standing (λ r. OnOk result (IfSome self.new.standing (λ after.
-            LeadsOn r.state (Given.Happening (seen_event draw iface group.bits source.bits)) after.state))) }
+            LeadsOn r.state (Given.Happening (seen_event draw iface name.group.bits name.source.bits)) after.state))) }
         ensures failing { OnErr result (self.new ≡ nothing_shown) }
         ensures silent { OnErr result (emissions.new.items ≡ emissions.old.items) }
-        ensures failed { (result ≡ Err Fault.Failed) ↔ (self.old.standing ≡ None) }
-        ensures fault { IfSome self.old.standing (λ r. IsOkUnless result Fault.Memory) }
+        ensures faults { Faults result self.old.standing }
     {
         if self.failed {
             return Err(Fault::Failed);
         }
-        let Ok(packet) = bare_packet(&mut self.core.room, SourceGroup { source, group }) else {
+        let Ok(packet) = bare_packet(&mut self.core.room, name) else {
             self.failed = true;
             return Err(Fault::Memory);
         };
@@ -454,8 +409,7 @@ impl Router {
         ensures led { IfSome self.old.standing (λ r. OnOk result (IfSome self.new.standing (λ after.
             LeadsOn r.state (Given.Kept group.bits source.bits (min moment last_moment)) after.state))) }
         ensures failing { OnErr result (self.new ≡ nothing_shown) }
-        ensures failed { (result ≡ Err Fault.Failed) ↔ (self.old.standing ≡ None) }
-        ensures fault { IfSome self.old.standing (λ r. IsOkUnless result Fault.Memory) }
+        ensures faults { Faults result self.old.standing }
     {
         self.keep_later(source, group, moment)
     }
@@ -467,8 +421,7 @@ impl Router {
         ensures state { IfSome self.old.standing (λ r. OnOk result (self.new
             ≡ with_state self.old r (keep r.state group.bits source.bits (min moment last_moment)))) }
         ensures failing { OnErr result (self.new ≡ nothing_shown) }
-        ensures failed { (result ≡ Err Fault.Failed) ↔ (self.old.standing ≡ None) }
-        ensures fault { IfSome self.old.standing (λ r. IsOkUnless result Fault.Memory) }
+        ensures faults { Faults result self.old.standing }
     {
         if self.failed {
             return Err(Fault::Failed);
@@ -511,17 +464,9 @@ impl Router {
         ensures bounded { IfSome self.old.standing (λ r. (c : ConfigValue) (before : List Given)
             → IsLedTo c before r.state → IfSome self.new.standing (λ after. counted after.state
             ≤ greatest_limit c.limit before * (greatest_count (length c.interfaces) before + 1))) }
-        ensures cheap { IfSome self.old.standing (λ r. OnOk result
-            (IsLastCheap r.state events.now self.new.probes self.new.touched)) }
-        ensures changed { IfSome self.old.standing (λ r. OnOk result
-            (IsLastListed r.state events.now self.new.changed)) }
-        ensures disturbed { IfSome self.old.standing (λ r. OnOk result
-            (IsLastDisturbed r.state events.now self.new.disturbed)) }
-        ensures stays { IfSome self.old.standing (λ r. OnOk result
-            (LastOffersStay r.state events.now self.new.disturbed)) }
+        ensures last { IfSome self.old.standing (λ r. OnOk result (TellsLast r.state events.now self.new)) }
         ensures failing { OnErr result (self.new ≡ nothing_shown) }
-        ensures failed { (result ≡ Err Fault.Failed) ↔ (self.old.standing ≡ None) }
-        ensures fault { IfSome self.old.standing (λ r. IsOkUnless result Fault.Memory) }
+        ensures faults { Faults result self.old.standing }
         ensures sure { IfSome self.old.standing (λ r. events.now ≡ [] → IsOk result) }
     {
         if self.failed {

@@ -1,13 +1,13 @@
 -- What the guard stops changes nothing; what it lets through is let through behind a front for older hosts too.
-use Rattle.std.{specs.{List.All, Option.option_map_or}, proofs.Common.{◌≡◌, ◌≢◌, ◌∙◌, ap, refl, arith, sym, subst, ℕ, Bool, true, false, List, [], ◌∷◌, Option, Some, None, option_map, map, get_or, IfSome, IsSome, IsTrue, cond, Err, if◌then◌else◌}}
+use Rattle.std.{specs.{List.All, Option.option_map_or}, proofs.Common.{◌≡◌, ◌≢◌, ◌∙◌, ap, refl, arith, sym, subst, ℕ, Bool, true, false, List, [], ◌∷◌, Option, Some, None, option_map, map, get_or, IfSome, IsSome, IsTrue, cond, Err, Result, if◌then◌else◌}}
 use Rattle.pim_ip.{specs.{Checksum.with_checksum, Ipv4.{header_text, igmp_packet_text, ipv4_reading}, declared.refusal.Refusal.Refusal}}
-use Rattle.pim_types.{specs.declared.{event.{Event.Event, EventKind.EventKind}, outcome.Stop.Stop}}
+use Rattle.pim_types.{specs.declared.{event.{Event.Event, EventKind.EventKind}, outcome.{Emission.Emission, Stop.Stop, Verdict.Verdict}}}
 use Rattle.pim_model.{specs.{Full.passes_limit, Judging.{judged, unicast_judged}, State.State, Step.{step, stopped}, Sure.needs_no_memory, Tables.same_bool}}
 use Rattle.law_events.{specs.Named.event_named}
 use Rattle.law_streams.{specs.Copies.copies_at}
 use Rattle.pim_state.{specs.declared.touched.Touched.Touched}
 use Rattle.pim_event.{specs.{Disturbing.{disturbed_with_room, event_disturbed, event_touched}, Listing.ListsSame, Replacing.{NoneReplaced, event_replaced}}}
-use Rattle.pim_router.{specs.Standing.{Shown, Standing, beginning, nothing_shown, standing}}
+use Rattle.pim_router.{specs.{Standing.{Shown, Standing, beginning, nothing_shown, standing}, Stepped.{Stepped, TookEvent}}}
 use Rattle.igmp_older.{specs.{Joined.{bytes_given, event_given, joined_step, kind_given, known_if, rows_of}, Presence.hosts_on, Routers.{OlderQueried, queried, query_packet}, Translation.{Translation, packet_given, translation}}}
 use Rattle.pim_guard.{specs.{Guard.{guarded, guarded_if, is_frame_stopped, is_kind_stopped}, Laws.IsOfData}, proofs.{Guarded.{guarded_copies_are_data, guarded_passes}, Passing.no_frame_of_another}}
 use Rattle.pim_anycast.{specs.{Joined.{event_given as shared_given, kind_given as shared_kind}, Passed.passed, declared.set.RpSet.RpSet}}
@@ -37,43 +37,41 @@ disturbs_none : (s : State) (draw : ℕ) → event_disturbed s (empty draw) ≡ 
 unfolding event_touched disturbed_with_room event_replaced step judged unicast_judged ipv4_reading
 disturbs_none s draw = rw (same (passes_limit s 1)) refl
 
-still : (old shown : Shown) (draw : ℕ)
-    → IfSome old.standing (λ r. shown.standing ≡ Some (standing (step r.state (empty draw))))
-    → IfSome old.standing (λ r. ListsSame shown.changed (event_named r.state (empty draw)))
-    → IfSome old.standing (λ r. shown.disturbed ≡ event_disturbed r.state (empty draw))
+still : (old shown : Shown) (draw : ℕ) (answered : Result Verdict Refusal)
+    → IfSome old.standing (λ r. TookEvent r.state (empty draw) answered shown)
     → IsSome old.standing → IsStill old shown
-still old shown draw stands lists disturbs some = go old.standing refl stands lists disturbs some
+still old shown draw answered took some = go old.standing refl took some
   where
     go : (o : Option Standing) → old.standing ≡ o
-        → IfSome o (λ r. shown.standing ≡ Some (standing (step r.state (empty draw))))
-        → IfSome o (λ r. ListsSame shown.changed (event_named r.state (empty draw)))
-        → IfSome o (λ r. shown.disturbed ≡ event_disturbed r.state (empty draw))
+        → IfSome o (λ r. TookEvent r.state (empty draw) answered shown)
         → IsSome o → IsStill old shown
-    go None is stands lists disturbs some = cc
-    go (Some r) is stands lists disturbs some = record {
-      standing = stands ∙ ap (λ a. Some (standing a)) (refused r.state draw)
+    go None is took some = cc
+    go (Some r) is took some = record {
+      standing = took.state ∙ ap (λ a. Some (standing a)) (refused r.state draw)
           ∙ sym (ap (option_map (λ (r : Standing). beginning r.state)) is);
-      changed = subst (ListsSame shown.changed) (names_none r.state draw) lists;
-      disturbed = disturbs ∙ disturbs_none r.state draw;
+      changed = subst (ListsSame shown.changed) (names_none r.state draw) took.tells.changed;
+      disturbed = took.tells.disturbed ∙ disturbs_none r.state draw;
     }
 
 -- the same of a session's router, by what the session shows
-pub stays_still : (lost : Bool) (now shown before after : Shown) (event : Event) (draw : ℕ)
+pub stays_still : (lost : Bool) (now shown before after : Shown) (event : Event) (draw : ℕ) (answered : Result Verdict Refusal)
+    (sent left : List Emission)
     → cond lost nothing_shown shown ≡ now → before ≡ shown → event ≡ empty draw → IsSome now.standing
-    → IfSome before.standing (λ r. after.standing ≡ Some (standing (step r.state event)))
-    → IfSome before.standing (λ r. ListsSame after.changed (event_named r.state event))
-    → IfSome before.standing (λ r. after.disturbed ≡ event_disturbed r.state event)
+    → IfSome before.standing (λ r. Stepped r.state event sent answered after left)
     → IsStill now (cond lost nothing_shown after)
-stays_still true now shown before after event draw view is told some stands lists disturbs =
+stays_still true now shown before after event draw answered sent left view is told some stepped =
     let no : IsSome (nothing_shown.standing) = subst (λ (x : Shown). IsSome x.standing) (sym view) some in cc
-stays_still false now shown before after event draw view is told some stands lists disturbs =
+stays_still false now shown before after event draw answered sent left view is told some stepped =
     let same : before ≡ now = is ∙ view in
     subst (λ (x : Shown). IsStill x after) same
-    (still before after draw
-    (subst (λ (e : Event). IfSome before.standing (λ r. after.standing ≡ Some (standing (step r.state e)))) told stands)
-    (subst (λ (e : Event). IfSome before.standing (λ r. ListsSame after.changed (event_named r.state e))) told lists)
-    (subst (λ (e : Event). IfSome before.standing (λ r. after.disturbed ≡ event_disturbed r.state e)) told disturbs)
+    (still before after draw answered
+    (took before.standing (subst (λ (e : Event). IfSome before.standing (λ r. Stepped r.state e sent answered after left)) told stepped))
     (subst (λ (x : Shown). IsSome x.standing) (sym same) some))
+  where
+    took : (o : Option Standing) → IfSome o (λ r. Stepped r.state (empty draw) sent answered after left)
+        → IfSome o (λ r. TookEvent r.state (empty draw) answered after)
+    took None h = tt
+    took (Some r) h = h.took
 
 pub sure_to_stay : (lost : Bool) (now shown before : Shown) (event : Event) (draw : ℕ) (B : Type 0)
     → cond lost nothing_shown shown ≡ now → before ≡ shown → event ≡ empty draw → IsSome now.standing

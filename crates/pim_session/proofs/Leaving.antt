@@ -31,11 +31,11 @@ unfolding left_in
 asked_by x e None answer shown leaving after told = tt
 asked_by x e (Some r) answer shown leaving after told =
     let behind : Event = event_in x r.state e in
-    subst (λ (o : Option Standing). IfSome o (λ a. LeftIsAsked (left_in x r.state e) r.state behind answer leaving a.copies)) (sym told.state)
+    subst (λ (o : Option Standing). IfSome o (λ a. LeftIsAsked (left_in x r.state e) r.state behind answer leaving a.copies)) (sym told.took.state)
     (record {
       sent = (step r.state behind).emissions;
       is = told.sent;
-      asked = step_asked r.state behind answer (step r.state behind).emissions told.is_answer refl;
+      asked = step_asked r.state behind answer (step r.state behind).emissions told.took.answer refl;
     })
 
 -- what leaves of an event
@@ -55,7 +55,7 @@ pub led_by : (x : ShownSession) (e : Event) (was : Option Standing) (answer : Re
 led_by x e None answer shown leaving after told = tt
 led_by x e (Some r) answer shown leaving after told =
     let behind : Event = event_in x r.state e in
-    leads_now r.state (Given.Happening behind) shown.standing (standing (step r.state behind)) told.state (step_leads r.state behind)
+    leads_now r.state (Given.Happening behind) shown.standing (standing (step r.state behind)) told.took.state (step_leads r.state behind)
 
 -- ---- a packet that a data plane saw
 
@@ -77,11 +77,11 @@ pub asked_of : (x : ShownSession) (e : Event) (g src : ℕ) (was : Option Standi
 unfolding seen_in
 asked_of x e g src None answer shown leaving told = tt
 asked_of x e g src (Some r) answer shown leaving told =
-    subst (λ (o : Option Standing). IfSome o (λ a. LeftIsAsked (seen_in x r.state e g src) r.state e answer leaving a.copies)) (sym told.state)
+    subst (λ (o : Option Standing). IfSome o (λ a. LeftIsAsked (seen_in x r.state e g src) r.state e answer leaving a.copies)) (sym told.took.state)
     (record {
       sent = (step r.state e).emissions;
       is = told.sent;
-      asked = step_asked r.state e answer (step r.state e).emissions told.is_answer refl;
+      asked = step_asked r.state e answer (step r.state e).emissions told.took.answer refl;
     })
 
 -- what leaves of that event
@@ -99,7 +99,7 @@ pub led_of : (x : ShownSession) (e : Event) (g src : ℕ) (was : Option Standing
     → IfSome was (λ r. IfSome shown.standing (λ a. LeadsOn r.state (Given.Happening e) a.state))
 led_of x e g src None answer shown leaving told = tt
 led_of x e g src (Some r) answer shown leaving told =
-    leads_now r.state (Given.Happening e) shown.standing (standing (step r.state e)) told.state (step_leads r.state e)
+    leads_now r.state (Given.Happening e) shown.standing (standing (step r.state e)) told.took.state (step_leads r.state e)
 
 -- a router that is made of bytes
 pub goes_on_from : (bytes : List ℕ) (shown : Shown) → ((h : Held) → held_reading bytes ≡ Ok h → shown ≡ begun h.state)

@@ -5,11 +5,9 @@ use Rattle.pim_types.{specs.declared.{config.RpRange.RpRange, event.{Event.Event
 use Rattle.pim_model.{specs.{State.{State, is_own, is_own_among}, Step.{Answered, step}, Sure.needs_no_memory, Tables.is_empty_list, Unicast.{rp_among, rp_of}, Writing.unicast_time_to_live}}
 use Rattle.pim_wire.{specs.Registers.null_register_text}
 use Rattle.law_settled.{proofs.UnchangedLaws.{ignored_unchanged, refused_unchanged}}
-use Rattle.law_events.{specs.Named.event_named}
-use Rattle.pim_event.{specs.{Costs.IsCheap, Disturbing.event_disturbed, Listing.ListsSame, Staying.OffersStay}}
-use Rattle.pim_router.{specs.Standing.{Shown as RouterShown, Standing, standing}}
+use Rattle.pim_router.{specs.{Standing.{Shown as RouterShown, Standing}, Stepped.Stepped}}
 use Rattle.pim_anycast.{specs.{Announced.{announced, announced_all, announced_due, announced_new, is_announced, is_due, is_local, local_keys, announcement_interval}, Joined.{event_given, kind_given, packet_announced, sent_after, sent_before}, Passed.{bytes_given, copies_of, passed}, Sets.{are_rp_sets, set_for, to_others}, declared.{front.Passed.Passed, set.RpSet.RpSet}}, proofs.{JoinedLaws.{kind_same, none_after, none_before}, Unset.none_new}}
-use Rattle.pim_session.{specs.{Behind.Stepped, Front.{Front, emissions_leaving, given, is_sure}, Shared.{Beside, BringsFrame, Reached, Saw, front_behind, given_behind, is_advance, is_as_it_came, is_left_alone, is_sure_behind, is_unshared, left_behind, name_announced, unicast_event}}}
+use Rattle.pim_session.{specs.{Behind.SteppedBehind, Front.{Front, emissions_leaving, given, is_sure}, Shared.{Beside, BringsFrame, Reached, Saw, front_behind, given_behind, is_advance, is_as_it_came, is_left_alone, is_sure_behind, is_unshared, left_behind, name_announced, unicast_event}}}
 
 -- ---- what the router is asked
 
@@ -54,17 +52,12 @@ fits_told (Some r) sets b is = is
 
 reached : (sets : List RpSet) (front : Option Front) (s : State) (e : Event) (answered : Result Verdict Refusal)
     (left : RouterShown) (sent leaving : List Emission) (after : Option Front)
-    → Stepped front s (event_given sets s e) answered left sent after
+    → SteppedBehind front s (event_given sets s e) answered left sent after
     → leaving ≡ sent_before sets s e.kind ++ sent ++ sent_after sets s (step s (given_behind sets front s e)).state e.kind
     → Reached sets front s e answered left leaving after
 unfolding given_behind front_behind left_behind
 reached sets front s e answered left sent leaving after stepped leaves = record {
-  is_answer = stepped.is_answer;
-  state = stepped.state;
-  cheap = stepped.cheap;
-  changed = stepped.changed;
-  disturbed = stepped.disturbed;
-  stays = stepped.stays;
+  took = stepped.took;
   sent = leaves
       ∙ ap (λ (xs : List Emission). sent_before sets s e.kind ++ xs
       ++ sent_after sets s (step s (given front s (event_given sets s e))).state e.kind) stepped.sent;
@@ -75,12 +68,12 @@ reached sets front s e answered left sent leaving after stepped leaves = record 
 unicast_reached : (sets : List RpSet) (front : Option Front) (s : State) (draw : ℕ) (bytes packet : List ℕ) (told : Passed)
     (answered : Result Verdict Refusal) (left : RouterShown) (sent leaving : List Emission) (after : Option Front)
     → told ≡ passed sets s.ranges bytes → packet ≡ bytes_given told bytes → leaving ≡ copies_of told ++ sent
-    → Stepped front s (unicast_event draw packet) answered left sent after
+    → SteppedBehind front s (unicast_event draw packet) answered left sent after
     → Reached sets front s (unicast_event draw bytes) answered left leaving after
 unfolding event_given kind_given
 unicast_reached sets front s draw bytes packet told answered left sent leaving after is gives leaves stepped =
     reached sets front s (unicast_event draw bytes) answered left sent leaving after
-    (subst (λ (xs : List ℕ). Stepped front s (unicast_event draw xs) answered left sent after)
+    (subst (λ (xs : List ℕ). SteppedBehind front s (unicast_event draw xs) answered left sent after)
     (gives ∙ ap (λ (x : Passed). bytes_given x bytes) is) stepped)
     (leaves ∙ ap (λ (x : Passed). copies_of x ++ sent) is ∙ sym (append-nil (copies_of (passed sets s.ranges bytes) ++ sent)))
 
@@ -88,12 +81,12 @@ pub unicast_took : (o : Option Standing) (sets : List RpSet) (front : Option Fro
     (event : Event) (answered : Result Verdict Refusal) (left : RouterShown) (sent leaving : List Emission) (after : Option Front)
     → told ≡ passed sets (ranges_in o) bytes → packet ≡ bytes_given told bytes → event ≡ unicast_event draw packet
     → leaving ≡ copies_of told ++ sent
-    → IfSome o (λ r. Stepped front r.state event answered left sent after)
+    → IfSome o (λ r. SteppedBehind front r.state event answered left sent after)
     → IfSome o (λ r. Reached sets front r.state (unicast_event draw bytes) answered left leaving after)
 unicast_took None sets front draw bytes packet told event answered left sent leaving after is gives brings leaves stepped = tt
 unicast_took (Some r) sets front draw bytes packet told event answered left sent leaving after is gives brings leaves stepped =
     unicast_reached sets front r.state draw bytes packet told answered left sent leaving after is gives leaves
-    (subst (λ (e : Event). Stepped front r.state e answered left sent after) brings stepped)
+    (subst (λ (e : Event). SteppedBehind front r.state e answered left sent after) brings stepped)
 
 -- a packet of a source on an interface
 pub named_took : (o : Option Standing) (sets : List RpSet) (front : Option Front) (e : Event) (g src : ℕ) (before : Bool)
@@ -101,7 +94,7 @@ pub named_took : (o : Option Standing) (sets : List RpSet) (front : Option Front
     → before ≡ is_announced sets (ranges_in o) (local_in o g src) g
     → more ≡ announced_new sets (ranges_in left.standing) before (local_in left.standing g src) g src
     → leaving ≡ sent ++ more
-    → IfSome o (λ r. Stepped front r.state e answered left sent after)
+    → IfSome o (λ r. SteppedBehind front r.state e answered left sent after)
     → IfSome o (λ r. Beside [] (name_announced sets r.state (step r.state (given front r.state e)).state g src) front r.state e
     answered left leaving after)
 unfolding name_announced
@@ -110,7 +103,7 @@ named_took (Some r) sets front e g src before answered left sent more leaving af
   sent = sent;
   stepped = stepped;
   leaves = leaves ∙ ap (λ (xs : List Emission). sent ++ xs)
-      (is ∙ ap (λ (o : Option Standing). announced_new sets (ranges_in o) before (local_in o g src) g src) stepped.state
+      (is ∙ ap (λ (o : Option Standing). announced_new sets (ranges_in o) before (local_in o g src) g src) stepped.took.state
       ∙ ap (λ (b : Bool). announced_new sets (step r.state (given front r.state e)).state.ranges b
       (is_local (step r.state (given front r.state e)).state g src) g src) was);
 }
@@ -119,7 +112,7 @@ named_took (Some r) sets front e g src before answered left sent more leaving af
 frame_reached : (sets : List RpSet) (front : Option Front) (s : State) (draw : ℕ) (kind : EventKind) (bytes : List ℕ)
     (answered : Result Verdict Refusal) (left : RouterShown) (sent leaving : List Emission) (after : Option Front)
     → BringsFrame bytes kind
-    → (let e : Event = record { draw = draw; kind = kind } in Stepped front s e answered left sent after
+    → (let e : Event = record { draw = draw; kind = kind } in SteppedBehind front s e answered left sent after
     → leaving ≡ sent ++ packet_announced sets s (step s (given front s e)).state (ipv4_reading bytes)
     → Reached sets front s e answered left leaving after)
 unfolding event_given kind_given given_behind
@@ -151,7 +144,7 @@ frame_took (Some r) sets front e bytes p answered left leaving after brings read
 pub unread_took : (o : Option Standing) (sets : List RpSet) (front : Option Front) (e : Event) (bytes : List ℕ) (refusal : Refusal)
     (answered : Result Verdict Refusal) (left : RouterShown) (sent : List Emission) (after : Option Front)
     → BringsFrame bytes e.kind → ipv4_reading bytes ≡ Err refusal
-    → IfSome o (λ r. Stepped front r.state e answered left sent after)
+    → IfSome o (λ r. SteppedBehind front r.state e answered left sent after)
     → IfSome o (λ r. Reached sets front r.state e answered left sent after)
 unread_took None sets front e bytes refusal answered left sent after brings reads stepped = tt
 unread_took (Some r) sets front e bytes refusal answered left sent after brings reads stepped =
@@ -164,7 +157,7 @@ advance_reached : (sets : List RpSet) (front : Option Front) (s : State) (draw :
     (answered : Result Verdict Refusal) (left : RouterShown) (sent leaving : List Emission) (after : Option Front)
     → is_advance kind ≡ true
     → (let e : Event = record { draw = draw; kind = kind } in let t : State = (step s (given front s e)).state in
-    Stepped front s e answered left sent after
+    SteppedBehind front s e answered left sent after
     → leaving ≡ sent ++ announced_due sets t.ranges (local_keys t) s.present t.present
     → Reached sets front s e answered left leaving after)
 unfolding event_given kind_given given_behind
@@ -183,14 +176,14 @@ pub advance_took : (o : Option Standing) (sets : List RpSet) (front : Option Fro
     → is_advance e.kind ≡ true → before ≡ present_in o
     → more ≡ announced_due sets (ranges_in left.standing) (local_keys_in left.standing) before (present_in left.standing)
     → leaving ≡ sent ++ more
-    → IfSome o (λ r. Stepped front r.state e answered left sent after)
+    → IfSome o (λ r. SteppedBehind front r.state e answered left sent after)
     → IfSome o (λ r. Reached sets front r.state e answered left leaving after)
 advance_took None sets front e before answered left sent more leaving after kind was is leaves stepped = tt
 advance_took (Some r) sets front e before answered left sent more leaving after kind was is leaves stepped =
     let t : State = (step r.state (given front r.state e)).state in
     advance_reached sets front r.state e.draw e.kind answered left sent leaving after kind stepped
     (leaves ∙ ap (λ (xs : List Emission). sent ++ xs)
-    (is ∙ ap (λ (o : Option Standing). announced_due sets (ranges_in o) (local_keys_in o) before (present_in o)) stepped.state
+    (is ∙ ap (λ (o : Option Standing). announced_due sets (ranges_in o) (local_keys_in o) before (present_in o)) stepped.took.state
     ∙ ap (λ (n : ℕ). announced_due sets t.ranges (local_keys t) n t.present) was))
 
 -- an event about which the sets change nothing
@@ -198,13 +191,13 @@ pass_reached : (sets : List RpSet) (front : Option Front) (s : State) (draw : �
     (answered : Result Verdict Refusal) (left : RouterShown) (sent : List Emission) (after : Option Front)
     → (is_empty_list sets || is_unshared kind) ≡ true
     → (let e : Event = record { draw = draw; kind = kind } in
-    Stepped front s e answered left sent after → Reached sets front s e answered left sent after)
+    SteppedBehind front s e answered left sent after → Reached sets front s e answered left sent after)
 unfolding event_given kind_given given_behind
 pass_reached [] front s draw kind answered left sent after is stepped =
     let e : Event = record { draw = draw; kind = kind } in
     let same : event_given [] s e ≡ e = ap (λ (k : EventKind). let x : Event = record { draw = draw; kind = k } in x) (kind_same s kind) in
     reached [] front s e answered left sent sent after
-    (subst (λ (x : Event). Stepped front s x answered left sent after) (sym same) stepped)
+    (subst (λ (x : Event). SteppedBehind front s x answered left sent after) (sym same) stepped)
     (sym (rw (none_before s kind, none_after s (step s (given front s (event_given [] s e))).state kind) (append-nil sent)))
 pass_reached (set ∷ sets) front s draw (EventKind.Up i) answered left sent after is stepped =
     let e : Event = record { draw = draw; kind = EventKind.Up i } in
@@ -225,7 +218,7 @@ pass_reached (set ∷ sets) front s draw (EventKind.Unicast bytes) answered left
 pub pass_took : (o : Option Standing) (sets : List RpSet) (front : Option Front) (e : Event)
     (answered : Result Verdict Refusal) (left : RouterShown) (sent : List Emission) (after : Option Front)
     → (is_empty_list sets || is_unshared e.kind) ≡ true
-    → IfSome o (λ r. Stepped front r.state e answered left sent after)
+    → IfSome o (λ r. SteppedBehind front r.state e answered left sent after)
     → IfSome o (λ r. Reached sets front r.state e answered left sent after)
 pass_took None sets front e answered left sent after is stepped = tt
 pass_took (Some r) sets front e answered left sent after is stepped =
@@ -249,28 +242,18 @@ pub saw_all : (o : Option Standing) (sets : List RpSet) (e : Event) (g src : ℕ
     → IfSome o (λ r. (before ≡ is_announced sets r.state.ranges (is_local r.state g src) g) ⊎ (is_empty_list sets ≡ true))
     → more ≡ announced_new sets (ranges_in left.standing) before (local_in left.standing g src) g src
     → leaving ≡ sent ++ more
-    → IfSome o (λ r. answered ≡ (step r.state e).answer)
-    → IfSome o (λ r. left.standing ≡ Some (standing (step r.state e)))
-    → IfSome o (λ r. IsCheap r.state e left.probes left.touched)
-    → IfSome o (λ r. ListsSame left.changed (event_named r.state e))
-    → IfSome o (λ r. left.disturbed ≡ event_disturbed r.state e)
-    → IfSome o (λ r. OffersStay left.disturbed r.state (step r.state e).state)
-    → IfSome o (λ r. sent ≡ (step r.state e).emissions)
+    → IfSome o (λ r. Stepped r.state e [] answered left sent)
     → IfSome o (λ r. Saw sets r.state e g src answered left leaving)
 unfolding name_announced
-saw_all None sets e g src before answered left sent more leaving was is leaves a b c d f h k = tt
-saw_all (Some r) sets e g src before answered left sent more leaving was is leaves a b c d f h k =
+saw_all None sets e g src before answered left sent more leaving was is leaves stepped = tt
+saw_all (Some r) sets e g src before answered left sent more leaving was is leaves stepped =
     let t : State = (step r.state e).state in
     let here : more ≡ announced_new sets t.ranges before (is_local t g src) g src =
-    is ∙ ap (λ (o : Option Standing). announced_new sets (ranges_in o) before (local_in o g src) g src) b in
+    is ∙ ap (λ (o : Option Standing). announced_new sets (ranges_in o) before (local_in o g src) g src)
+    stepped.took.state in
     record {
-      is_answer = a;
-      state = b;
-      cheap = c;
-      changed = d;
-      disturbed = f;
-      stays = h;
-      sent = leaves ∙ ap (λ (xs : List Emission). xs ++ more) k
+      took = stepped.took;
+      sent = leaves ∙ ap (λ (xs : List Emission). xs ++ more) stepped.sent
           ∙ ap (λ (xs : List Emission). (step r.state e).emissions ++ xs) (here ∙ told sets t r.state before was);
     }
   where
@@ -320,7 +303,7 @@ none_leave None = refl
 none_leave (Some f) = refl
 
 silent : (front : Option Front) (s : State) (e : Event) (answered : Result Verdict Refusal) (left : RouterShown)
-    (sent : List Emission) (after : Option Front) → Stepped front s e answered left sent after → is_sure front s e ≡ true → sent ≡ []
+    (sent : List Emission) (after : Option Front) → SteppedBehind front s e answered left sent after → is_sure front s e ≡ true → sent ≡ []
 silent front s e answered left sent after stepped sure =
     stepped.sent ∙ ap (emissions_leaving front) (stays_by front s e sure).1 ∙ none_leave front
 
@@ -374,7 +357,7 @@ given_surely (Some r) sets front draw bytes packet told event B is gives brings 
 pub silent_surely : (o : Option Standing) (sets : List RpSet) (front : Option Front) (draw : ℕ) (bytes packet : List ℕ) (told : Passed)
     (event : Event) (answered : Result Verdict Refusal) (left : RouterShown) (sent : List Emission) (after : Option Front) (B : Type 0)
     → told ≡ passed sets (ranges_in o) bytes → packet ≡ bytes_given told bytes → event ≡ unicast_event draw packet
-    → IfSome o (λ r. Stepped front r.state event answered left sent after) → (sent ≡ [] → B)
+    → IfSome o (λ r. SteppedBehind front r.state event answered left sent after) → (sent ≡ [] → B)
     → IfSome o (λ r. IsTrue (is_sure_behind sets front r.state (unicast_event draw bytes)) → B)
 silent_surely None sets front draw bytes packet told event answered left sent after B is gives brings stepped h = tt
 silent_surely (Some r) sets front draw bytes packet told event answered left sent after B is gives brings stepped h =
@@ -385,7 +368,7 @@ silent_surely (Some r) sets front draw bytes packet told event answered left sen
 pub named_surely : (o : Option Standing) (sets : List RpSet) (front : Option Front) (e : Event) (g src : ℕ) (before : Bool)
     (answered : Result Verdict Refusal) (left : RouterShown) (sent : List Emission) (after : Option Front) (B : Type 0)
     → before ≡ is_announced sets (ranges_in o) (local_in o g src) g
-    → IfSome o (λ r. Stepped front r.state e answered left sent after)
+    → IfSome o (λ r. SteppedBehind front r.state e answered left sent after)
     → ((before || not (is_announced sets (ranges_in left.standing) (local_in left.standing g src) g)) ≡ true → B)
     → IfSome o (λ r. IsTrue (is_sure front r.state e) → B)
 named_surely None sets front e g src before answered left sent after B was stepped h = tt
@@ -394,7 +377,7 @@ named_surely (Some r) sets front e g src before answered left sent after B was s
     ≡ (is_announced sets r.state.ranges (is_local r.state g src) g || not (is_announced sets r.state.ranges (is_local r.state g src) g)) =
     ap (λ (b : Bool). b || not (is_announced sets (ranges_in left.standing) (local_in left.standing g src) g)) was
     ∙ ap (λ (o : Option Standing). is_announced sets r.state.ranges (is_local r.state g src) g
-    || not (is_announced sets (ranges_in o) (local_in o g src) g)) stepped.state
+    || not (is_announced sets (ranges_in o) (local_in o g src) g)) stepped.took.state
     ∙ ap (λ (t : State). is_announced sets r.state.ranges (is_local r.state g src) g
     || not (is_announced sets t.ranges (is_local t g src) g)) (stays_by front r.state e sure).0 in
     h (same ∙ none_anew sets r.state.ranges (is_local r.state g src) g)
@@ -403,13 +386,13 @@ pub none_named : (o : Option Standing) (sets : List RpSet) (front : Option Front
     (answered : Result Verdict Refusal) (left : RouterShown) (sent more : List Emission) (after : Option Front) (B : Type 0)
     → before ≡ is_announced sets (ranges_in o) (local_in o g src) g
     → more ≡ announced_new sets (ranges_in left.standing) before (local_in left.standing g src) g src
-    → IfSome o (λ r. Stepped front r.state e answered left sent after) → (more ≡ [] → B)
+    → IfSome o (λ r. SteppedBehind front r.state e answered left sent after) → (more ≡ [] → B)
     → IfSome o (λ r. IsTrue (is_sure front r.state e) → B)
 none_named None sets front e g src before answered left sent more after B was is stepped h = tt
 none_named (Some r) sets front e g src before answered left sent more after B was is stepped h = λ sure.
     h (is ∙ ap (λ (b : Bool). announced_new sets (ranges_in left.standing) b (local_in left.standing g src) g src) was
     ∙ ap (λ (o : Option Standing). announced_new sets (ranges_in o) (is_announced sets r.state.ranges (is_local r.state g src) g)
-    (local_in o g src) g src) stepped.state
+    (local_in o g src) g src) stepped.took.state
     ∙ ap (λ (t : State). announced_new sets t.ranges (is_announced sets r.state.ranges (is_local r.state g src) g)
     (is_local t g src) g src) (stays_by front r.state e sure).0
     ∙ none_sent sets r.state.ranges (is_local r.state g src) g src)
@@ -481,14 +464,14 @@ not_due n = go (n / announcement_interval)
 pub still_surely : (o : Option Standing) (sets : List RpSet) (front : Option Front) (e : Event) (before : ℕ)
     (answered : Result Verdict Refusal) (left : RouterShown) (sent : List Emission) (after : Option Front) (B : Type 0)
     → is_advance e.kind ≡ true → before ≡ present_in o
-    → IfSome o (λ r. Stepped front r.state e answered left sent after)
+    → IfSome o (λ r. SteppedBehind front r.state e answered left sent after)
     → (is_due before (present_in left.standing) ≡ false → B)
     → IfSome o (λ r. IsTrue (is_sure_behind sets front r.state e) → B)
 still_surely None sets front e before answered left sent after B kind was stepped h = tt
 still_surely (Some r) sets front e before answered left sent after B kind was stepped h =
     advance_surely (Some r) sets front e B kind (λ sure.
     h (ap (λ (n : ℕ). is_due n (present_in left.standing)) was
-    ∙ ap (λ (o : Option Standing). is_due r.state.present (present_in o)) stepped.state
+    ∙ ap (λ (o : Option Standing). is_due r.state.present (present_in o)) stepped.took.state
     ∙ ap (λ (t : State). is_due r.state.present t.present) (stays_by front r.state e sure).0 ∙ not_due r.state.present))
 
 pub none_due_so : (sets : List RpSet) (ranges : List RpRange) (keys : List Key) (before present : ℕ) (more : List Emission)

@@ -4,11 +4,9 @@ use Rattle.pim_ip.{specs.declared.{fault.Fault.Fault, refusal.Refusal.Refusal}}
 use Rattle.pim_types.{specs.declared.{config.IfaceId.IfaceId, event.{Event.Event, EventKind.EventKind}, fact.Key.Key, outcome.{Emission.Emission, Verdict.Verdict}}}
 use Rattle.pim_model.{specs.{Querier.group_membership_interval, State.{State}, Step.{Answered, step}, Sure.needs_no_memory, Tables.{has_row, row_at}}}
 use Rattle.law_settled.{proofs.UnchangedLaws.{ignored_unchanged, refused_unchanged}}
-use Rattle.law_events.{specs.Named.event_named}
-use Rattle.pim_event.{specs.{Costs.IsCheap, Disturbing.event_disturbed, Listing.ListsSame, Staying.OffersStay}}
-use Rattle.pim_router.{specs.Standing.{Shown as RouterShown, Standing, standing}}
+use Rattle.pim_router.{specs.{Standing.{Shown as RouterShown, Standing, standing}, Stepped.Stepped}}
 use Rattle.igmp_older.{specs.{Joined.{bytes_given, event_given, joined_step, kind_given, known_after, known_if, noted_answered, noted_if, older_in, older_of, present_end, rows_of}, Presence.{Present, hosts_on, left, live_rows, looked}, Routers.{OlderQueried, Wrote, queried, query_packet}, Translation.{Gives, Translation, packet_given, translation}, declared.{front.Given.Given, older.Older.Older}}}
-use Rattle.pim_session.{specs.{Behind.{Gave, Stepped, Took, frame_event, is_done, is_plain, packet_of}, Front.{Front, both, bytes_queried, emission_leaving, emissions_leaving, event_queried, front_after, given, hears_queries, is_query_passed, is_sure, kind_queried}}, proofs.FrontLaws.emissions_same}
+use Rattle.pim_session.{specs.{Behind.{SteppedBehind, Took, frame_event, is_done, is_plain, packet_of}, Front.{Front, both, bytes_queried, emission_leaving, emissions_leaving, event_queried, front_after, given, hears_queries, is_query_passed, is_sure, kind_queried}}, proofs.FrontLaws.emissions_same}
 
 -- ---- the router is asked
 
@@ -23,21 +21,6 @@ pub record_of : (o : Option Standing) (k : Key)
 unfolding row_at
 record_of None k = refl
 record_of (Some r) k = refl
-
--- ---- the router took an event
-
-pub all_gave : (o : Option Standing) (e : Event) (before : List Emission) (answered : Result Verdict Refusal) (shown : RouterShown) (after : List Emission)
-    → IfSome o (λ r. answered ≡ (step r.state e).answer)
-    → IfSome o (λ r. shown.standing ≡ Some (standing (step r.state e)))
-    → IfSome o (λ r. IsCheap r.state e shown.probes shown.touched)
-    → IfSome o (λ r. ListsSame shown.changed (event_named r.state e))
-    → IfSome o (λ r. shown.disturbed ≡ event_disturbed r.state e)
-    → IfSome o (λ r. OffersStay shown.disturbed r.state (step r.state e).state)
-    → IfSome o (λ r. after ≡ before ++ (step r.state e).emissions)
-    → IfSome o (λ r. Gave r.state e before answered shown after)
-all_gave None e before answered shown after a b c d f g h = tt
-all_gave (Some r) e before answered shown after a b c d f g h =
-    record { is_answer = a; state = b; cheap = c; changed = d; disturbed = f; stays = g; sent = h }
 
 -- ---- a packet
 
@@ -99,19 +82,19 @@ pub packet_took : (o : Option Standing) (f : Front) (draw : ℕ) (iface : IfaceI
     → Gives given (translation (live_rows (option_map_or (λ r. r.state.group_records) o []) f.present.rows)
     (option_map_or (λ r. r.state.present) o 0) iface.number (hosts_on f.present iface.number) bytes) [] written
     → event ≡ frame_event draw iface (packet_of given bytes written)
-    → IfSome o (λ r. Gave r.state event before answered shown after)
+    → IfSome o (λ r. Stepped r.state event before answered shown after)
     → end ≡ option_map_or (λ r. r.state.present + group_membership_interval r.state iface.number) o 0
     → packet ≡ packet_of given bytes written
     → known ≡ with_present f (noted_answered f.present iface.number end packet (older_in given) answered)
     → IfSome o (λ r. Took f r.state (frame_event draw iface bytes) before answered shown after known)
-packet_took None f draw iface bytes written packet given event before answered shown after end known gives is gave late told k = tt
-packet_took (Some r) f draw iface bytes written packet given event before answered shown after end known gives is gave late told k =
+packet_took None f draw iface bytes written packet given event before answered shown after end known gives is stepped late told k = tt
+packet_took (Some r) f draw iface bytes written packet given event before answered shown after end known gives is stepped late told k =
     let same = is ∙ event_so f r.state draw iface given bytes written gives in
-    let went = subst (λ (x : Event). Gave r.state x before answered shown after) same gave in
+    let went = subst (λ (x : Event). Stepped r.state x before answered shown after) same stepped in
     record {
-      gave = went;
+      stepped = went;
       knows = k ∙ known_step f r.state (frame_event draw iface bytes) answered
-          (noted_answered f.present iface.number end packet (older_in given) answered) went.is_answer
+          (noted_answered f.present iface.number end packet (older_in given) answered) went.took.answer
           (known_so f r.state _ iface bytes packet end (older_in given) answered late (told ∙ packet_so f r.state iface given bytes written gives)
           (older_so given _ written gives));
     }
@@ -181,18 +164,18 @@ kind_same f (EventKind.Routes routes) e = refl
 kind_same f (EventKind.Rps rps) e = refl
 
 other_took : (o : Option Standing) (f : Front) (e : Event) (before : List Emission) (answered : Result Verdict Refusal) (shown : RouterShown) (after : List Emission) (p : Present) (known : Front)
-    → known ≡ with_present f p → is_frame e.kind ≡ false → IfSome o (λ r. Gave r.state e before answered shown after)
+    → known ≡ with_present f p → is_frame e.kind ≡ false → IfSome o (λ r. Stepped r.state e before answered shown after)
     → ((s : State) → shown.standing ≡ Some (standing (step s e)) → p ≡ known_if (both f s) (step s e).state e.kind answered)
     → IfSome o (λ r. Took f r.state (event_queried f e) before answered shown after known)
-other_took None f e before answered shown after p known so is gave k = tt
-other_took (Some r) f e before answered shown after p known so is gave k =
+other_took None f e before answered shown after p known so is stepped k = tt
+other_took (Some r) f e before answered shown after p known so is stepped k =
     let same = given_same f r.state e.draw e.kind is in
-    let went = subst (λ (x : Event). Gave r.state x before answered shown after) same gave in
+    let went = subst (λ (x : Event). Stepped r.state x before answered shown after) same stepped in
     let told = subst (λ (x : Event). p ≡ known_if (both f r.state) (step r.state x).state e.kind answered) same
-    (k r.state gave.state) in
+    (k r.state stepped.took.state) in
     record {
-      gave = went;
-      knows = so ∙ known_step f r.state (event_queried f e) answered p went.is_answer
+      stepped = went;
+      knows = so ∙ known_step f r.state (event_queried f e) answered p went.took.answer
           (subst (λ (x : EventKind). p ≡ known_if (both f r.state) (step r.state (event_given (both f r.state) (event_queried f e))).state x answered)
           (kind_same f e.kind is) told);
     }
@@ -209,11 +192,11 @@ advance_knows f moment (Ok (Verdict.Ignored reason)) shown p e s a is = e
 advance_knows f moment (Err refusal) shown p e s a is = e
 
 pub advance_took : (o : Option Standing) (f : Front) (e : Event) (moment : ℕ) (before : List Emission) (answered : Result Verdict Refusal) (shown : RouterShown) (after : List Emission) (p : Present) (known : Front)
-    → known ≡ with_present f p → e.kind ≡ EventKind.Advance moment → IfSome o (λ r. Gave r.state e before answered shown after)
+    → known ≡ with_present f p → e.kind ≡ EventKind.Advance moment → IfSome o (λ r. Stepped r.state e before answered shown after)
     → p ≡ (if is_done answered then looked (option_map_or (λ r. r.state.group_records) shown.standing []) moment f.present else f.present)
     → IfSome o (λ r. Took f r.state (event_queried f e) before answered shown after known)
-advance_took o f e moment before answered shown after p known so is gave k =
-    other_took o f e before answered shown after p known so (ap is_frame is) gave
+advance_took o f e moment before answered shown after p known so is stepped k =
+    other_took o f e before answered shown after p known so (ap is_frame is) stepped
     (λ s there. subst (λ (x : EventKind). p ≡ known_if (both f s) (step s e).state x answered) (sym is)
     (advance_knows f moment answered shown p k s (step s e) there))
 
@@ -227,11 +210,11 @@ down_knows f iface (Ok (Verdict.Ignored reason)) p e s after = e
 down_knows f iface (Err refusal) p e s after = e
 
 pub down_took : (o : Option Standing) (f : Front) (e : Event) (iface : IfaceId) (before : List Emission) (answered : Result Verdict Refusal) (shown : RouterShown) (after : List Emission) (p : Present) (known : Front)
-    → known ≡ with_present f p → e.kind ≡ EventKind.Down iface → IfSome o (λ r. Gave r.state e before answered shown after)
+    → known ≡ with_present f p → e.kind ≡ EventKind.Down iface → IfSome o (λ r. Stepped r.state e before answered shown after)
     → p ≡ (if is_done answered then left iface.number f.present else f.present)
     → IfSome o (λ r. Took f r.state (event_queried f e) before answered shown after known)
-down_took o f e iface before answered shown after p known so is gave k =
-    other_took o f e before answered shown after p known so (ap is_frame is) gave
+down_took o f e iface before answered shown after p known so is stepped k =
+    other_took o f e before answered shown after p known so (ap is_frame is) stepped
     (λ s there. subst (λ (x : EventKind). p ≡ known_if (both f s) (step s e).state x answered) (sym is)
     (down_knows f iface answered p k s _))
 
@@ -259,10 +242,10 @@ plain_frame (EventKind.Routes routes) e = refl
 plain_frame (EventKind.Rps rps) e = refl
 
 pub plain_took : (o : Option Standing) (f : Front) (e : Event) (before : List Emission) (answered : Result Verdict Refusal) (shown : RouterShown) (after : List Emission)
-    → is_plain e.kind ≡ true → IfSome o (λ r. Gave r.state e before answered shown after)
+    → is_plain e.kind ≡ true → IfSome o (λ r. Stepped r.state e before answered shown after)
     → IfSome o (λ r. Took f r.state (event_queried f e) before answered shown after f)
-plain_took o f e before answered shown after is gave =
-    other_took o f e before answered shown after f.present f refl (plain_frame e.kind is) gave
+plain_took o f e before answered shown after is stepped =
+    other_took o f e before answered shown after f.present f refl (plain_frame e.kind is) stepped
     (λ s there. plain_knows f s _ e.kind answered is)
 
 -- ---- events for which no memory is taken
@@ -357,42 +340,27 @@ pub left_surely : (o : Option Standing) (f : Front) (e : Event) (answered : Resu
 unfolding is_sure given
 left_surely None f e answered shown sent known B took h = tt
 left_surely (Some r) f e answered shown sent known B took h = λ sure.
-    h (took.gave.sent ∙ silent_by r.state (event_given (both f r.state) (event_queried f e)) _ refl (and_right _ _ sure))
+    h (took.stepped.sent ∙ silent_by r.state (event_given (both f r.state) (event_queried f e)) _ refl (and_right _ _ sure))
 
 pub all_stepped : (o : Option Standing) (f : Front) (e : Event) (answered : Result Verdict Refusal) (shown : RouterShown) (sent leaving : List Emission) (known : Front)
     → IfSome o (λ r. Took f r.state (event_queried f e) [] answered shown sent known)
     → leaving ≡ map (emission_leaving known) sent
-    → IfSome o (λ r. Stepped (Some f) r.state e answered shown leaving (Some known))
+    → IfSome o (λ r. SteppedBehind (Some f) r.state e answered shown leaving (Some known))
 unfolding given front_after emissions_leaving
 all_stepped None f e answered shown sent leaving known took is = tt
 all_stepped (Some r) f e answered shown sent leaving known took is =
-    let gave = took.gave in
     record {
-      is_answer = gave.is_answer;
-      state = gave.state;
-      cheap = gave.cheap;
-      changed = gave.changed;
-      disturbed = gave.disturbed;
-      stays = gave.stays;
+      took = took.stepped.took;
       sent = is ∙ ap (λ (g : Front). map (emission_leaving g) sent) took.knows
           ∙ emissions_same f (joined_step (both f r.state) (event_queried f e)).1.present sent
-          ∙ ap (λ (xs : List Emission). map (emission_leaving f) xs) gave.sent;
+          ∙ ap (λ (xs : List Emission). map (emission_leaving f) xs) took.stepped.sent;
       known = ap (λ (g : Front). Some g) took.knows;
     }
 
 pub all_alone : (o : Option Standing) (front : Option Front) (e : Event) (answered : Result Verdict Refusal) (shown : RouterShown) (sent : List Emission) (known : Option Front)
-    → front ≡ None → known ≡ None → IfSome o (λ r. Gave r.state e [] answered shown sent)
-    → IfSome o (λ r. Stepped front r.state e answered shown sent known)
+    → front ≡ None → known ≡ None → IfSome o (λ r. Stepped r.state e [] answered shown sent)
+    → IfSome o (λ r. SteppedBehind front r.state e answered shown sent known)
 unfolding given front_after emissions_leaving
-all_alone None front e answered shown sent known is none gave = tt
-all_alone (Some r) (Some f) e answered shown sent known is none gave = cc
-all_alone (Some r) None e answered shown sent known is none gave = record {
-  is_answer = gave.is_answer;
-  state = gave.state;
-  cheap = gave.cheap;
-  changed = gave.changed;
-  disturbed = gave.disturbed;
-  stays = gave.stays;
-  sent = gave.sent;
-  known = none;
-}
+all_alone None front e answered shown sent known is none stepped = tt
+all_alone (Some r) (Some f) e answered shown sent known is none stepped = cc
+all_alone (Some r) None e answered shown sent known is none stepped = record { took = stepped.took; sent = stepped.sent; known = none }

@@ -1,29 +1,16 @@
 -- What a router and what stands before it show after an event that had no fault.
-use Rattle.std.{specs.Prelude.{◌≡◌, ◌++◌, Bool, true, false, ℕ, List, Option, Result, Ok, Err, Some}}
+use Rattle.std.{specs.Prelude.{◌≡◌, Bool, true, false, ℕ, List, Option, Result, Ok, Err}}
 use Rattle.pim_ip.{specs.declared.refusal.Refusal.Refusal}
 use Rattle.pim_types.{specs.declared.{config.IfaceId.IfaceId, event.{Event.Event, EventKind.EventKind}, outcome.{Emission.Emission, Verdict.Verdict}}}
 use Rattle.pim_model.{specs.{State.State, Step.step}}
-use Rattle.law_events.{specs.Named.event_named}
-use Rattle.pim_event.{specs.{Costs.IsCheap, Disturbing.event_disturbed, Listing.ListsSame, Staying.OffersStay}}
-use Rattle.pim_router.{specs.Standing.{Shown as RouterShown, standing}}
+use Rattle.pim_router.{specs.{Standing.{Shown as RouterShown}, Stepped.{Stepped, TookEvent}}}
 use Rattle.igmp_older.{specs.{Joined.{event_given, joined_step}, declared.front.Given.Given}}
 use Rattle.pim_session.{specs.Front.{Front, both, emissions_leaving, front_after, given}}
-
--- A router took an event: what it answered, what it shows, and what was sent, behind what was sent before.
-pub record Gave (s : State) (e : Event) (before : List Emission) (answered : Result Verdict Refusal)
-    (left : RouterShown) (after : List Emission) : Type 0 where
-  pub is_answer : answered ≡ (step s e).answer
-  pub state : left.standing ≡ Some (standing (step s e))
-  pub cheap : IsCheap s e left.probes left.touched
-  pub changed : ListsSame left.changed (event_named s e)
-  pub disturbed : left.disturbed ≡ event_disturbed s e
-  pub stays : OffersStay left.disturbed s (step s e).state
-  pub sent : after ≡ before ++ (step s e).emissions
 
 -- A router took an event in which no older query is left, behind what stood before it.
 pub record Took (f : Front) (s : State) (e : Event) (before : List Emission) (answered : Result Verdict Refusal)
     (left : RouterShown) (after : List Emission) (known : Front) : Type 0 where
-  pub gave : Gave s (event_given (both f s) e) before answered left after
+  pub stepped : Stepped s (event_given (both f s) e) before answered left after
   pub knows : known ≡ record f { present = (joined_step (both f s) e).1.present }
 
 -- a packet came on an interface
@@ -52,13 +39,8 @@ is_done (Err refusal) = false
 
 -- A router took an event behind what stood before it, if anything did: what it answered and shows, what leaves, and
 -- what stands before it then.
-pub record Stepped (front : Option Front) (s : State) (e : Event) (answered : Result Verdict Refusal)
+pub record SteppedBehind (front : Option Front) (s : State) (e : Event) (answered : Result Verdict Refusal)
     (left : RouterShown) (leaving : List Emission) (after : Option Front) : Type 0 where
-  pub is_answer : answered ≡ (step s (given front s e)).answer
-  pub state : left.standing ≡ Some (standing (step s (given front s e)))
-  pub cheap : IsCheap s (given front s e) left.probes left.touched
-  pub changed : ListsSame left.changed (event_named s (given front s e))
-  pub disturbed : left.disturbed ≡ event_disturbed s (given front s e)
-  pub stays : OffersStay left.disturbed s (step s (given front s e)).state
+  pub took : TookEvent s (given front s e) answered left
   pub sent : leaving ≡ emissions_leaving front (step s (given front s e)).emissions
   pub known : after ≡ front_after front s e

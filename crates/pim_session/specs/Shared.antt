@@ -4,11 +4,9 @@ use Rattle.std.{specs.Prelude.{Bool, Err, List, None, Ok, Option, Result, Some, 
 use Rattle.pim_ip.{specs.declared.refusal.Refusal.Refusal}
 use Rattle.pim_types.{specs.declared.{config.Config.Config, event.{Event.Event, EventKind.EventKind}, outcome.{Emission.Emission, Verdict.Verdict}}}
 use Rattle.pim_model.{specs.{State.{State, addressing_of}, Step.{Answered, step}, Timers.next_moment}}
-use Rattle.law_events.{specs.Named.event_named}
-use Rattle.pim_event.{specs.{Costs.IsCheap, Disturbing.event_disturbed, Listing.ListsSame, Staying.OffersStay}}
-use Rattle.pim_router.{specs.Standing.{Shown as RouterShown, standing}}
+use Rattle.pim_router.{specs.{Standing.{Shown as RouterShown}, Stepped.TookEvent}}
 use Rattle.pim_anycast.{specs.{Announced.{announced_new, is_announced, is_local, next_announcement}, Joined.{event_given, sent_after, sent_before}, Passed.passed, Sets.are_rp_sets, declared.{front.Passed.Passed, set.RpSet.RpSet}}}
-use Rattle.pim_session.{specs.{Behind.Stepped, Front.{Front, emissions_leaving, front_after, given, is_sure}, Session.ShownSession, declared.refused.ReloadRefusal.ReloadRefusal}}
+use Rattle.pim_session.{specs.{Behind.SteppedBehind, Front.{Front, emissions_leaving, front_after, given, is_sure}, Session.ShownSession, declared.refused.ReloadRefusal.ReloadRefusal}}
 
 -- ---- an event at a router behind both
 
@@ -71,30 +69,20 @@ name_announced sets s t g src =
 pub record Beside (first last : List Emission) (front : Option Front) (s : State) (e : Event) (answered : Result Verdict Refusal)
     (left : RouterShown) (leaving : List Emission) (after : Option Front) : Type 0 where
   pub sent : List Emission
-  pub stepped : Stepped front s e answered left sent after
+  pub stepped : SteppedBehind front s e answered left sent after
   pub leaves : leaving ≡ first ++ sent ++ last
 
 -- A router took an event behind both: what it answered and shows, what leaves, and what is known of older hosts then.
 pub record Reached (sets : List RpSet) (front : Option Front) (s : State) (e : Event) (answered : Result Verdict Refusal)
     (left : RouterShown) (leaving : List Emission) (after : Option Front) : Type 0 where
-  pub is_answer : answered ≡ (step s (given_behind sets front s e)).answer
-  pub state : left.standing ≡ Some (standing (step s (given_behind sets front s e)))
-  pub cheap : IsCheap s (given_behind sets front s e) left.probes left.touched
-  pub changed : ListsSame left.changed (event_named s (given_behind sets front s e))
-  pub disturbed : left.disturbed ≡ event_disturbed s (given_behind sets front s e)
-  pub stays : OffersStay left.disturbed s (step s (given_behind sets front s e)).state
+  pub took : TookEvent s (given_behind sets front s e) answered left
   pub sent : leaving ≡ left_behind sets front s (step s (given_behind sets front s e)).state e.kind (step s (given_behind sets front s e)).emissions
   pub known : after ≡ front_behind sets front s e
 
 -- A router took the event of a packet of a source that a data plane saw: what it answered and shows, and what leaves.
 pub record Saw (sets : List RpSet) (s : State) (e : Event) (g src : ℕ) (answered : Result Verdict Refusal)
     (left : RouterShown) (leaving : List Emission) : Type 0 where
-  pub is_answer : answered ≡ (step s e).answer
-  pub state : left.standing ≡ Some (standing (step s e))
-  pub cheap : IsCheap s e left.probes left.touched
-  pub changed : ListsSame left.changed (event_named s e)
-  pub disturbed : left.disturbed ≡ event_disturbed s e
-  pub stays : OffersStay left.disturbed s (step s e).state
+  pub took : TookEvent s e answered left
   pub sent : leaving ≡ (step s e).emissions ++ name_announced sets s (step s e).state g src
 
 -- ---- an event at a session

@@ -1,5 +1,5 @@
 -- What an event does to a session that doesn't take it.
-use Rattle.std.{specs.Prelude.{Bool, Err, IsTrue, None, Ok, Result, [], false, length, nat_lt, not, option_map, true, ◌&&◌, ◌≡◌}}
+use Rattle.std.{specs.Prelude.{Bool, Err, IfSome, IsTrue, None, Ok, Result, [], false, length, nat_lt, not, option_map, true, ◌&&◌, ◌≡◌, ◌↔◌}}
 use Rattle.pim_ip.{specs.declared.fault.Fault.Fault}
 use Rattle.pim_event.{specs.{Listing.ListsSame, Replacing.NoneReplaced}}
 use Rattle.pim_state.{specs.declared.touched.Touched.Touched}
@@ -15,6 +15,16 @@ has_untaken s = nat_lt 0 (length s.sent)
 -- the guard stops an event, which it is shown where no packets are untaken
 abbrev pub is_guarded : ShownSession → EventKind → Bool
 is_guarded s kind = not (has_untaken s) && is_stopped s.guard kind
+
+-- When a call stops before it begins: where the session has failed, and where packets of the event before are untaken.
+pub record Stops {A : Type 0} (result : Result A Stop) (old : ShownSession) : Type 0 where
+  pub failed : (result ≡ Err (Stop.Fault Fault.Failed)) ↔ (old.router.standing ≡ None)
+  pub untaken : IfSome old.router.standing (λ r. (result ≡ Err Stop.Untaken) ↔ IsTrue (has_untaken old))
+
+-- What a user set stays: whether the guard is on, and the sets of RPs.
+pub record SettingsStay (old new : ShownSession) : Type 0 where
+  pub guard : new.guard ≡ old.guard
+  pub sets : new.sets ≡ old.sets
 
 -- What a router shows after an event that the guard before it stopped: it is in the same state, so that whatever led to
 -- that led to this. It made no copies, lists no source as changed, and disturbed nothing.

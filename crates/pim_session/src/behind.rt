@@ -3,12 +3,13 @@ ghost use Rattle.std.specs.Prelude.{◌≡◌, IfOk, IfSome, IsOk, IsOkUnless, I
 ghost use Rattle.pim_ip.specs.declared.fault.Fault.{Fault};
 ghost use Rattle.pim_model.specs.Step.{step};
 ghost use Rattle.pim_model.specs.Sure.{needs_no_memory};
+ghost use Rattle.pim_router.specs.Stepped.{Stepped};
 ghost use Rattle.pim_types.specs.declared.event.EventKind.{EventKind};
 ghost use Rattle.igmp_older.specs.Joined.{rows_of};
 ghost use Rattle.igmp_older.specs.Presence.{hosts_on};
 ghost use Rattle.igmp_older.specs.Translation.{translation};
-ghost use Rattle.pim_session.specs.Behind.{Gave, Stepped, Took, frame_event, is_done, is_plain, packet_of};
-ghost use Rattle.pim_session.specs.Front.{both, emissions_leaving, event_queried, front_of, given, interface_test, is_sure, older_rows, times_in};
+ghost use Rattle.pim_session.specs.Behind.{SteppedBehind, Took, frame_event, is_done, is_plain, packet_of};
+ghost use Rattle.pim_session.specs.Front.{both, event_queried, front_of, given, interface_test, is_sure, older_rows, times_in};
 
 use crate::asked::Asked;
 use crate::front::Front;
@@ -17,7 +18,7 @@ use pim_intake::LentEvent;
 use pim_intake::lent::LentKind;
 use pim_router::Router;
 use pim_types::{Emission, Fault, IfaceId, Refusal, Verdict};
-use std::alloc::{AllocError, Global};
+use std::alloc::AllocError;
 use std::mem;
 
 // Whether an event was done.
@@ -43,8 +44,8 @@ fn give(
     event: &LentEvent<'_>,
     sent: &mut Vec<Emission>,
 ) -> Result<Result<Verdict, Refusal>, Fault>
-    ensures gave { IfSome router.old.standing (λ r. IfOk result (λ answer.
-        Gave r.state event.now sent.old.items answer router.new sent.new.items)) }
+    ensures stepped { IfSome router.old.standing (λ r. IfOk result (λ answer.
+        Stepped r.state event.now sent.old.items answer router.new sent.new.items)) }
     ensures fault { IfSome router.old.standing (λ r. IsOkUnless result Fault.Memory) }
     ensures sure { IfSome router.old.standing (λ r. IsTrue (needs_no_memory (step r.state event.now).answer)
         → IsOk result) }
@@ -55,7 +56,6 @@ fn give(
 
 // A packet that came on an interface, in which no older query is left.
 fn take_packet(
-    alloc: Global,
     router: &mut Router,
     front: &mut Front,
     draw: u32,
@@ -72,6 +72,7 @@ fn take_packet(
         → IsTrue (needs_no_memory (step r.state (frame_event draw iface bytes.now)).answer) → IsOk result) }
 {
     let end = router.membership_end(iface);
+    let alloc = router.alloc();
     let mut written = Vec::new(alloc);
     let given = front.translate(alloc, &Asked::of(router), iface, bytes, &mut written)?;
     let packet = packet_of(given, bytes, written.as_slice());
@@ -82,7 +83,6 @@ fn take_packet(
 
 // A packet that came on an interface.
 fn take_frame(
-    alloc: Global,
     router: &mut Router,
     front: &mut Front,
     draw: u32,
@@ -98,13 +98,14 @@ fn take_frame(
         IsTrue (is_sure (Some front.old) r.state (frame_event draw iface bytes.now)) → IsOk result) }
 {
     if !front.hears_queries(iface) {
-        return take_packet(alloc, router, front, draw, iface, bytes, sent);
+        return take_packet(router, front, draw, iface, bytes, sent);
     }
+    let alloc = router.alloc();
     let mut query = Vec::new(alloc);
     if translate_query(alloc, bytes, &mut query)? {
-        return take_packet(alloc, router, front, draw, iface, query.as_slice(), sent);
+        return take_packet(router, front, draw, iface, query.as_slice(), sent);
     }
-    take_packet(alloc, router, front, draw, iface, bytes, sent)
+    take_packet(router, front, draw, iface, bytes, sent)
 }
 
 // Time passes: whose timers expired by then is forgotten, and the groups without a record.
@@ -170,7 +171,6 @@ fn pass(
 // Any event.
 #[tactic(auto, unfolding(pim_intake::specs::Lent::event_kind))]
 fn take(
-    alloc: Global,
     router: &mut Router,
     front: &mut Front,
     event: &LentEvent<'_>,
@@ -183,7 +183,6 @@ fn take(
 {
     match event.kind() {
         LentKind::Frame { iface, bytes } => take_frame(
-            alloc,
             router,
             front,
             event.draw(),
@@ -202,40 +201,38 @@ fn take(
 
 // Any event, before which something stands; with the answer comes what leaves.
 fn step_behind(
-    alloc: Global,
     router: &mut Router,
     front: &mut Front,
     event: &LentEvent<'_>,
 ) -> Result<(Result<Verdict, Refusal>, Vec<Emission>), Fault>
     ensures took { IfSome router.old.standing (λ r. IfOk result (λ told.
-        Stepped (Some front.old) r.state event.now told.0 router.new told.1.items (Some front.new))) }
+        SteppedBehind (Some front.old) r.state event.now told.0 router.new told.1.items (Some front.new))) }
     ensures fault { IfSome router.old.standing (λ r. IsOkUnless result Fault.Memory) }
     ensures sure { IfSome router.old.standing (λ r. IsTrue (is_sure (Some front.old) r.state event.now) → IsOk result) }
 {
-    let mut sent = Vec::new(alloc);
-    let answer = take(alloc, router, front, event, &mut sent)?;
-    let left = front.emissions_leaving(alloc, sent)?;
+    let mut sent = Vec::new(router.alloc());
+    let answer = take(router, front, event, &mut sent)?;
+    let left = front.emissions_leaving(router.alloc(), sent)?;
     Ok((answer, left))
 }
 
 /// Has a router take an event; with the answer comes what leaves. What stands before the router is lost by a fault.
 pub(crate) fn step(
-    alloc: Global,
     router: &mut Router,
     front: &mut Option<Front>,
     event: &LentEvent<'_>,
 ) -> Result<(Result<Verdict, Refusal>, Vec<Emission>), Fault>
     ensures took { IfSome router.old.standing (λ r. IfOk result (λ told.
-        Stepped front.old r.state event.now told.0 router.new told.1.items front.new)) }
+        SteppedBehind front.old r.state event.now told.0 router.new told.1.items front.new)) }
     ensures fault { IfSome router.old.standing (λ r. IsOkUnless result Fault.Memory) }
     ensures sure { IfSome router.old.standing (λ r. IsTrue (is_sure front.old r.state event.now) → IsOk result) }
 {
     let Some(mut standing) = mem::replace(front, None) else {
-        let mut sent = Vec::new(alloc);
+        let mut sent = Vec::new(router.alloc());
         let answer = give(router, event, &mut sent)?;
         return Ok((answer, sent));
     };
-    let told = step_behind(alloc, router, &mut standing, event)?;
+    let told = step_behind(router, &mut standing, event)?;
     *front = Some(standing);
     Ok(told)
 }
@@ -251,18 +248,14 @@ pub(crate) fn times_in(router: &Router) -> ResponseTimes
 }
 
 /// What stands before a router: what stood there, or what is made. Only the latter may fail for want of memory.
-pub(crate) fn front_of(
-    alloc: Global,
-    router: &Router,
-    front: Option<Front>,
-) -> Result<Front, AllocError>
+pub(crate) fn front_of(router: &Router, front: Option<Front>) -> Result<Front, AllocError>
     ensures made { IfSome router.now.standing (λ r. IfOk result (λ made. made ≡ front_of r.state front)) }
     ensures none { OnErr result (front ≡ None) }
 {
     match front {
         Some(front) => Ok(front),
         None => Front::new(
-            alloc,
+            router.alloc(),
             router.limit(),
             router.interface_count(),
             times_in(router),
@@ -284,7 +277,6 @@ pub(crate) fn test_interface(router: &Router, iface: IfaceId) -> Result<(), Refu
 /// The groups in an older mode.
 #[tactic(auto, unfolding(crate::specs::Front::older_rows))]
 pub(crate) fn older_rows(
-    alloc: Global,
     router: &Router,
     front: &Option<Front>,
 ) -> Result<Vec<OlderRow>, AllocError>
@@ -292,9 +284,9 @@ pub(crate) fn older_rows(
 {
     match front {
         Some(front) => {
-            let rows = front.older_rows(alloc, &Asked::of(router))?;
+            let rows = front.older_rows(router.alloc(), &Asked::of(router))?;
             Ok(rows)
         }
-        None => Ok(Vec::new(alloc)),
+        None => Ok(Vec::new(router.alloc())),
     }
 }

@@ -1,14 +1,9 @@
 //! A router in a box, with what stands before it, and what its last calls returned.
-ghost use Rattle.law_events.specs.Named.{event_named};
 ghost use Rattle.law_plane.specs.Keeping.{keep};
 ghost use Rattle.law_plane.specs.Offered.{offered};
 ghost use Rattle.law_plane.specs.Seen.{seen_event};
 ghost use Rattle.law_states.specs.History.{Given};
-ghost use Rattle.pim_event.specs.Costs.{IsCheap};
-ghost use Rattle.pim_event.specs.Disturbing.{event_disturbed};
-ghost use Rattle.pim_event.specs.Listing.{ListsSame};
 ghost use Rattle.pim_event.specs.Replacing.{may_differ};
-ghost use Rattle.pim_event.specs.Staying.{OffersStay};
 ghost use Rattle.pim_fanout.specs.Named.{keys_of};
 ghost use Rattle.pim_guard.specs.Guard.{is_stopped};
 ghost use Rattle.pim_ip.specs.declared.fault.Fault.{Fault};
@@ -23,17 +18,18 @@ ghost use Rattle.pim_model.specs.State.{opening};
 ghost use Rattle.pim_model.specs.Step.{step};
 ghost use Rattle.pim_model.specs.Unicast.{rpf_interface_rp};
 ghost use Rattle.pim_router.specs.Asked.{LeadsOn};
-ghost use Rattle.pim_router.specs.Standing.{begun, nothing_shown, standing, with_state};
+ghost use Rattle.pim_router.specs.Standing.{begun, nothing_shown, with_state};
+ghost use Rattle.pim_router.specs.Stepped.{Faults, TookEvent};
 ghost use Rattle.pim_rows.specs.Printed.{rows};
 ghost use Rattle.pim_session.specs.Front.{hosts_set, interface_test, older_rows, version_set};
 ghost use Rattle.pim_session.specs.Leaving.{LeftIsAsked};
 ghost use Rattle.pim_session.specs.Shared.{event_in, front_in, is_sure_in, leaving, left_in, next_in, seen_in, seen_leaving, sooner};
-ghost use Rattle.pim_session.specs.Untaken.{IsAnswered, IsMemoryAlone, IsMemoryUnless, Stopped, has_untaken, is_guarded};
+ghost use Rattle.pim_session.specs.Untaken.{IsAnswered, IsMemoryAlone, IsMemoryUnless, SettingsStay, Stopped, Stops, has_untaken, is_guarded};
 ghost use Rattle.pim_session.specs.declared.stop.Stop.{Stop as StopValue};
 ghost use Rattle.pim_types.specs.Keys.{key_cmp};
 ghost use Rattle.std.specs.List.Sorted.{IsStrictlySortedBy};
 ghost use Rattle.std.specs.Option.{option_map_or};
-ghost use Rattle.std.specs.Prelude.{◌≡◌, ◌↔◌, [], Err, IfErr, IfOk, IfSome, IsOkUnless, IsSome, IsTrue, None, Ok, OnErr, OnOk, Some, drop, min, true};
+ghost use Rattle.std.specs.Prelude.{◌≡◌, ◌↔◌, [], Err, IfErr, IfOk, IfSome, IsSome, IsTrue, None, Ok, OnErr, OnOk, Some, drop, min, true};
 
 mod bootstraps;
 mod guarded;
@@ -167,15 +163,9 @@ impl Session {
     /// fault the session answers `Failed` from then on. A session that hasn't failed, and has no untaken packets, answers
     /// an event that is stopped or ignored, or is refused for its bytes, its timestamp or its interface, if its packet was
     /// given to the router as it came.
-    pub fn step(
-        &mut self,
-        alloc: Global,
-        event: &LentEvent<'_>,
-    ) -> Result<Result<Verdict, Refusal>, Stop>
-        ensures answer { IfSome self.old.router.standing (λ r. IfOk result (λ answer. answer
-            ≡ (step r.state (event_in self.old r.state event.now)).answer)) }
-        ensures state { IfSome self.old.router.standing (λ r. OnOk result
-            (self.new.router.standing ≡ Some (standing (step r.state (event_in self.old r.state event.now))))) }
+    pub fn step(&mut self, event: &LentEvent<'_>) -> Result<Result<Verdict, Refusal>, Stop>
+        ensures took { IfSome self.old.router.standing (λ r. IfOk result (λ answer.
+            TookEvent r.state (event_in self.old r.state event.now) answer self.new.router)) }
         ensures sent { IfSome self.old.router.standing (λ r. OnOk result (self.new.sent
             ≡ leaving self.old r.state event.now)) }
         ensures asked { IfSome self.old.router.standing (λ r. IfOk result (λ answer. IfSome self.new.router.standing (λ after.
@@ -184,23 +174,12 @@ impl Session {
             LeadsOn r.state (Given.Happening (event_in self.old r.state event.now)) after.state))) }
         ensures front { IfSome self.old.router.standing (λ r. OnOk result
             (self.new.front ≡ front_in self.old r.state event.now)) }
-        ensures cheap { IfSome self.old.router.standing (λ r. OnOk result
-            (IsCheap r.state (event_in self.old r.state event.now) self.new.router.probes self.new.router.touched)) }
-        ensures changed { IfSome self.old.router.standing (λ r. OnOk result
-            (ListsSame self.new.router.changed (event_named r.state (event_in self.old r.state event.now)))) }
-        ensures disturbed { IfSome self.old.router.standing (λ r. OnOk result
-            (self.new.router.disturbed ≡ event_disturbed r.state (event_in self.old r.state event.now))) }
-        ensures stays { IfSome self.old.router.standing (λ r. OnOk result
-            (OffersStay self.new.router.disturbed r.state (step r.state (event_in self.old r.state event.now)).state)) }
-        ensures untaken { IfSome self.old.router.standing (λ r.
-            (result ≡ Err StopValue.Untaken) ↔ IsTrue (has_untaken self.old)) }
+        ensures stops { Stops result self.old }
         ensures stopped { IfErr result (λ stop. Stopped stop self.old self.new) }
         ensures silent { OnErr result (self.new.sent ≡ self.old.sent) }
-        ensures failed { (result ≡ Err (StopValue.Fault Fault.Failed)) ↔ (self.old.router.standing ≡ None) }
         ensures guarded { IfSome self.old.router.standing (λ r.
             (result ≡ Err StopValue.Guarded) ↔ IsTrue (is_guarded self.old event.now.kind)) }
-        ensures guard { self.new.guard ≡ self.old.guard }
-        ensures sets { self.new.sets ≡ self.old.sets }
+        ensures settings { SettingsStay self.old self.new }
         ensures fault { IfSome self.old.router.standing (λ r.
             IfErr result (IsMemoryUnless (is_stopped self.old.guard event.now.kind))) }
         ensures sure { IfSome self.old.router.standing (λ r. self.old.sent ≡ []
@@ -215,15 +194,9 @@ impl Session {
             return Err(Stop::Untaken);
         }
         if self.stops(event) {
-            return Err(self.stay(alloc, event.draw()));
+            return Err(self.stay(event.draw()));
         }
-        match shared::step(
-            alloc,
-            self.router.as_mut(),
-            &mut self.front,
-            &self.anycast,
-            event,
-        ) {
+        match shared::step(self.router.as_mut(), &mut self.front, &self.anycast, event) {
             Ok((answer, sent)) => {
                 self.keep_sent(sent);
                 Ok(answer)
@@ -241,39 +214,24 @@ impl Session {
     /// answers `Failed` from then on.
     pub fn packet_seen(
         &mut self,
-        alloc: Global,
         draw: u32,
         iface: IfaceId,
-        source: Addr,
-        group: Addr,
+        name: SourceGroup,
     ) -> Result<Result<Verdict, Refusal>, Stop>
-        ensures answer { IfSome self.old.router.standing (λ r. IfOk result (λ answer.
-            answer ≡ (step r.state (seen_event draw iface group.bits source.bits)).answer)) }
-        ensures state { IfSome self.old.router.standing (λ r. OnOk result (self.new.router.standing
-            ≡ Some (standing (step r.state (seen_event draw iface group.bits source.bits))))) }
+        ensures took { IfSome self.old.router.standing (λ r. IfOk result (λ answer.
+            TookEvent r.state (seen_event draw iface name.group.bits name.source.bits) answer self.new.router)) }
         ensures sent { IfSome self.old.router.standing (λ r. OnOk result
-            (self.new.sent ≡ seen_leaving self.old r.state (seen_event draw iface group.bits source.bits) group.bits source.bits)) }
+            (self.new.sent ≡ seen_leaving self.old r.state (seen_event draw iface name.group.bits name.source.bits) name.group.bits name.source.bits)) }
         ensures asked { IfSome self.old.router.standing (λ r. IfOk result (λ answer. IfSome self.new.router.standing (λ after.
-            LeftIsAsked (seen_in self.old r.state (seen_event draw iface group.bits source.bits) group.bits source.bits) r.state
-            (seen_event draw iface group.bits source.bits) answer self.new.sent after.copies))) }
+            LeftIsAsked (seen_in self.old r.state (seen_event draw iface name.group.bits name.source.bits) name.group.bits name.source.bits) r.state
+            (seen_event draw iface name.group.bits name.source.bits) answer self.new.sent after.copies))) }
         ensures led { IfSome self.old.router.standing (λ r. OnOk result (IfSome self.new.router.standing (λ after.
-            LeadsOn r.state (Given.Happening (seen_event draw iface group.bits source.bits)) after.state))) }
-        ensures cheap { IfSome self.old.router.standing (λ r. OnOk result (IsCheap r.state
-            (seen_event draw iface group.bits source.bits) self.new.router.probes self.new.router.touched)) }
-        ensures changed { IfSome self.old.router.standing (λ r. OnOk result (ListsSame self.new.router.changed
-            (event_named r.state (seen_event draw iface group.bits source.bits)))) }
-        ensures disturbed { IfSome self.old.router.standing (λ r. OnOk result (self.new.router.disturbed
-            ≡ event_disturbed r.state (seen_event draw iface group.bits source.bits))) }
-        ensures stays { IfSome self.old.router.standing (λ r. OnOk result (OffersStay self.new.router.disturbed r.state
-            (step r.state (seen_event draw iface group.bits source.bits)).state)) }
-        ensures untaken { IfSome self.old.router.standing (λ r.
-            (result ≡ Err StopValue.Untaken) ↔ IsTrue (has_untaken self.old)) }
+            LeadsOn r.state (Given.Happening (seen_event draw iface name.group.bits name.source.bits)) after.state))) }
+        ensures stops { Stops result self.old }
         ensures stopped { IfErr result (λ stop. Stopped stop self.old self.new) }
         ensures front { OnOk result (self.new.front ≡ self.old.front) }
-        ensures guard { self.new.guard ≡ self.old.guard }
-        ensures sets { self.new.sets ≡ self.old.sets }
+        ensures settings { SettingsStay self.old self.new }
         ensures silent { OnErr result (self.new.sent ≡ self.old.sent) }
-        ensures failed { (result ≡ Err (StopValue.Fault Fault.Failed)) ↔ (self.old.router.standing ≡ None) }
         ensures fault { IfSome self.old.router.standing (λ r. IfErr result IsMemoryAlone) }
         ensures rows { (self.new.rows ≡ self.old.rows) × (self.new.older_rows ≡ self.old.older_rows) }
     {
@@ -283,15 +241,7 @@ impl Session {
         if self.has_untaken() {
             return Err(Stop::Untaken);
         }
-        let name = SourceGroup { source, group };
-        match shared::see(
-            alloc,
-            self.router.as_mut(),
-            &self.anycast,
-            draw,
-            iface,
-            name,
-        ) {
+        match shared::see(self.router.as_mut(), &self.anycast, draw, iface, name) {
             Ok((answer, sent)) => {
                 self.keep_sent(sent);
                 Ok(answer)
@@ -314,8 +264,7 @@ impl Session {
             LeadsOn r.state (Given.Kept group.bits source.bits (min moment last_moment)) after.state))) }
         ensures failing { OnErr result ((self.new.router ≡ nothing_shown) × (self.new.front ≡ None)) }
         ensures front { OnOk result (self.new.front ≡ self.old.front) }
-        ensures failed { (result ≡ Err Fault.Failed) ↔ (self.old.router.standing ≡ None) }
-        ensures fault { IfSome self.old.router.standing (λ r. IsOkUnless result Fault.Memory) }
+        ensures faults { Faults result self.old.router.standing }
         ensures rest { (self.new.guard ≡ self.old.guard) × (self.new.sets ≡ self.old.sets) × (self.new.sent ≡ self.old.sent) × (self.new.rows ≡ self.old.rows)
             × (self.new.older_rows ≡ self.old.older_rows) }
     {
@@ -354,8 +303,7 @@ impl Session {
     pub fn read(&mut self, table: Table) -> Result<(), Fault>
         ensures rows { IfSome self.old.router.standing (λ r. OnOk result (self.new.rows ≡ rows r.state table)) }
         ensures silent { OnErr result (self.new.rows ≡ self.old.rows) }
-        ensures failed { (result ≡ Err Fault.Failed) ↔ (self.old.router.standing ≡ None) }
-        ensures fault { IfSome self.old.router.standing (λ r. IsOkUnless result Fault.Memory) }
+        ensures faults { Faults result self.old.router.standing }
         ensures rest { (self.new.router ≡ self.old.router) × (self.new.guard ≡ self.old.guard) × (self.new.sets ≡ self.old.sets) × (self.new.front ≡ self.old.front)
             × (self.new.sent ≡ self.old.sent) × (self.new.older_rows ≡ self.old.older_rows) }
     {
@@ -372,7 +320,6 @@ impl Session {
     #[tactic(auto, unfolding(crate::specs::Front::hosts_set))]
     pub fn set_older_hosts(
         &mut self,
-        alloc: Global,
         iface: IfaceId,
         hosts: OlderHosts,
     ) -> Result<Result<(), Refusal>, Fault>
@@ -381,8 +328,7 @@ impl Session {
         ensures front { IfSome self.old.router.standing (λ r. OnOk result
             (self.new.front ≡ hosts_set r.state self.old.front iface.number hosts)) }
         ensures silent { OnErr result (self.new.front ≡ self.old.front) }
-        ensures failed { (result ≡ Err Fault.Failed) ↔ (self.old.router.standing ≡ None) }
-        ensures fault { IfSome self.old.router.standing (λ r. IsOkUnless result Fault.Memory) }
+        ensures faults { Faults result self.old.router.standing }
         ensures rest { (self.new.router ≡ self.old.router) × (self.new.guard ≡ self.old.guard) × (self.new.sets ≡ self.old.sets) × (self.new.sent ≡ self.old.sent) × (self.new.rows ≡ self.old.rows)
             × (self.new.older_rows ≡ self.old.older_rows) }
     {
@@ -393,7 +339,7 @@ impl Session {
             return Ok(Err(refusal));
         }
         let before = mem::replace(&mut self.front, None);
-        let mut front = behind::front_of(alloc, &self.router, before)?;
+        let mut front = behind::front_of(&self.router, before)?;
         front.set_hosts(iface, hosts);
         self.front = Some(front);
         Ok(Ok(()))
@@ -404,7 +350,6 @@ impl Session {
     #[tactic(auto, unfolding(crate::specs::Front::version_set))]
     pub fn set_query_version(
         &mut self,
-        alloc: Global,
         iface: IfaceId,
         version: QueryVersion,
     ) -> Result<Result<(), Refusal>, Fault>
@@ -413,8 +358,7 @@ impl Session {
         ensures front { IfSome self.old.router.standing (λ r. OnOk result
             (self.new.front ≡ version_set r.state self.old.front iface.number version)) }
         ensures silent { OnErr result (self.new.front ≡ self.old.front) }
-        ensures failed { (result ≡ Err Fault.Failed) ↔ (self.old.router.standing ≡ None) }
-        ensures fault { IfSome self.old.router.standing (λ r. IsOkUnless result Fault.Memory) }
+        ensures faults { Faults result self.old.router.standing }
         ensures rest { (self.new.router ≡ self.old.router) × (self.new.guard ≡ self.old.guard) × (self.new.sets ≡ self.old.sets) × (self.new.sent ≡ self.old.sent) × (self.new.rows ≡ self.old.rows)
             × (self.new.older_rows ≡ self.old.older_rows) }
     {
@@ -425,7 +369,7 @@ impl Session {
             return Ok(Err(refusal));
         }
         let before = mem::replace(&mut self.front, None);
-        let mut front = behind::front_of(alloc, &self.router, before)?;
+        let mut front = behind::front_of(&self.router, before)?;
         front.set_version(iface, version);
         self.front = Some(front);
         Ok(Ok(()))
@@ -433,19 +377,18 @@ impl Session {
 
     /// Reads the groups that are in an older mode, and keeps them in place of those kept before. After a fault the kept
     /// rows are unchanged.
-    pub fn read_older(&mut self, alloc: Global) -> Result<(), Fault>
+    pub fn read_older(&mut self) -> Result<(), Fault>
         ensures rows { IfSome self.old.router.standing (λ r. OnOk result
             (self.new.older_rows ≡ older_rows self.old.front r.state)) }
         ensures silent { OnErr result (self.new.older_rows ≡ self.old.older_rows) }
-        ensures failed { (result ≡ Err Fault.Failed) ↔ (self.old.router.standing ≡ None) }
-        ensures fault { IfSome self.old.router.standing (λ r. IsOkUnless result Fault.Memory) }
+        ensures faults { Faults result self.old.router.standing }
         ensures rest { (self.new.router ≡ self.old.router) × (self.new.guard ≡ self.old.guard) × (self.new.sets ≡ self.old.sets) × (self.new.front ≡ self.old.front)
             × (self.new.sent ≡ self.old.sent) × (self.new.rows ≡ self.old.rows) }
     {
         if self.is_lost {
             return Err(Fault::Failed);
         }
-        self.older_rows = behind::older_rows(alloc, &self.router, &self.front)?;
+        self.older_rows = behind::older_rows(&self.router, &self.front)?;
         Ok(())
     }
 

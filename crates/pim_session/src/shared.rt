@@ -58,7 +58,6 @@ fn copies_of(alloc: Global, passed: Passed) -> Vec<Emission>
 
 // A packet by unicast, which the sets may give in another form, or copy to others.
 fn take_unicast(
-    alloc: Global,
     router: &mut Router,
     front: &mut Option<Front>,
     anycast: &Anycast,
@@ -71,20 +70,18 @@ fn take_unicast(
     ensures sure { IfSome router.old.standing (λ r.
         IsTrue (is_sure_behind anycast.now front.old r.state (unicast_event draw bytes.now)) → IsOk result) }
 {
-    let passed = anycast.take_unicast(alloc, &Asked::of(router), bytes)?;
+    let passed = anycast.take_unicast(router.alloc(), &Asked::of(router), bytes)?;
     let (answer, sent) = behind::step(
-        alloc,
         router,
         front,
         &LentEvent::unicast(draw, packet_of(&passed, bytes)),
     )?;
-    let left = joined(copies_of(alloc, passed), sent)?;
+    let left = joined(copies_of(router.alloc(), passed), sent)?;
     Ok((answer, left))
 }
 
 // A packet of a source that came on an interface: the source is announced, if it is from then on.
 fn take_named(
-    alloc: Global,
     router: &mut Router,
     front: &mut Option<Front>,
     anycast: &Anycast,
@@ -98,15 +95,14 @@ fn take_named(
     ensures sure { IfSome router.old.standing (λ r. IsTrue (is_sure front.old r.state event.now) → IsOk result) }
 {
     let before = anycast.is_announced(&Asked::of(router), name);
-    let (answer, sent) = behind::step(alloc, router, front, event)?;
-    let more = anycast.announce_new(alloc, &Asked::of(router), name, before)?;
+    let (answer, sent) = behind::step(router, front, event)?;
+    let more = anycast.announce_new(router.alloc(), &Asked::of(router), name, before)?;
     let left = joined(sent, more)?;
     Ok((answer, left))
 }
 
 // A packet that came on an interface.
 fn take_frame(
-    alloc: Global,
     router: &mut Router,
     front: &mut Option<Front>,
     anycast: &Anycast,
@@ -126,11 +122,11 @@ fn take_frame(
                 source: packet.source(),
                 group: packet.destination(),
             };
-            let (answer, left) = take_named(alloc, router, front, anycast, event, name)?;
+            let (answer, left) = take_named(router, front, anycast, event, name)?;
             Ok((answer, left))
         }
         Err(_) => {
-            let (answer, sent) = behind::step(alloc, router, front, event)?;
+            let (answer, sent) = behind::step(router, front, event)?;
             Ok((answer, sent))
         }
     }
@@ -138,7 +134,6 @@ fn take_frame(
 
 // Time passes: the local sources are announced, if they are due.
 fn advance(
-    alloc: Global,
     router: &mut Router,
     front: &mut Option<Front>,
     anycast: &Anycast,
@@ -152,8 +147,8 @@ fn advance(
         → IsOk result) }
 {
     let before = router.present_moment();
-    let (answer, sent) = behind::step(alloc, router, front, event)?;
-    let more = anycast.announce_due(alloc, &Asked::of(router), before)?;
+    let (answer, sent) = behind::step(router, front, event)?;
+    let more = anycast.announce_due(router.alloc(), &Asked::of(router), before)?;
     let left = joined(sent, more)?;
     Ok((answer, left))
 }
@@ -167,7 +162,6 @@ fn is_unset(anycast: &Anycast) -> bool
 
 // An event about which the sets change nothing.
 fn pass(
-    alloc: Global,
     router: &mut Router,
     front: &mut Option<Front>,
     anycast: &Anycast,
@@ -181,14 +175,13 @@ fn pass(
         → IsOk result) }
 {
     let _ = anycast;
-    let (answer, sent) = behind::step(alloc, router, front, event)?;
+    let (answer, sent) = behind::step(router, front, event)?;
     Ok((answer, sent))
 }
 
 /// Has a router take an event; with the answer comes what leaves. What is known of older hosts is lost by a fault.
 #[tactic(auto, unfolding(pim_intake::specs::Lent::event_kind))]
 pub(crate) fn step(
-    alloc: Global,
     router: &mut Router,
     front: &mut Option<Front>,
     anycast: &Anycast,
@@ -201,27 +194,20 @@ pub(crate) fn step(
         → IsOk result) }
 {
     if is_unset(anycast) {
-        return pass(alloc, router, front, anycast, event);
+        return pass(router, front, anycast, event);
     }
     match event.kind() {
         LentKind::Unicast { bytes } => {
-            take_unicast(
-                alloc,
-                router,
-                front,
-                anycast,
-                event.draw(),
-                bytes.as_slice(),
-            )
+            take_unicast(router, front, anycast, event.draw(), bytes.as_slice())
         }
         LentKind::Frame { bytes, .. } => {
-            take_frame(alloc, router, front, anycast, event, bytes.as_slice())
+            take_frame(router, front, anycast, event, bytes.as_slice())
         }
-        LentKind::Advance { .. } => advance(alloc, router, front, anycast, event),
+        LentKind::Advance { .. } => advance(router, front, anycast, event),
         LentKind::Up { .. }
         | LentKind::Down { .. }
         | LentKind::Routes { .. }
-        | LentKind::Rps { .. } => pass(alloc, router, front, anycast, event),
+        | LentKind::Rps { .. } => pass(router, front, anycast, event),
     }
 }
 
@@ -240,7 +226,6 @@ fn is_settled(router: &Router, anycast: &Anycast, name: SourceGroup) -> bool
 
 /// A data plane saw a packet of a source on an interface; with the answer comes what leaves.
 pub(crate) fn see(
-    alloc: Global,
     router: &mut Router,
     anycast: &Anycast,
     draw: u32,
@@ -253,9 +238,9 @@ pub(crate) fn see(
     ensures fault { IfSome router.old.standing (λ r. IsOkUnless result Fault.Memory) }
 {
     let before = is_settled(router, anycast, name);
-    let mut sent = Vec::new(alloc);
-    let answer = router.packet_seen(draw, iface, name.source, name.group, &mut sent)?;
-    let more = anycast.announce_new(alloc, &Asked::of(router), name, before)?;
+    let mut sent = Vec::new(router.alloc());
+    let answer = router.packet_seen(draw, iface, name, &mut sent)?;
+    let more = anycast.announce_new(router.alloc(), &Asked::of(router), name, before)?;
     let left = joined(sent, more)?;
     Ok((answer, left))
 }

@@ -1,17 +1,15 @@
 //! Another configuration in a running router, by a map of places.
 ghost use Rattle.law_states.specs.History.{Given};
 ghost use Rattle.law_states.specs.Placing.{are_places, reload_by};
-ghost use Rattle.pim_event.specs.Replacing.{NoneReplaced};
 ghost use Rattle.pim_ip.specs.declared.fault.Fault.{Fault};
 ghost use Rattle.pim_model.specs.Limits.{config_test};
 ghost use Rattle.pim_model.specs.State.{iface_count, opening};
-ghost use Rattle.pim_reloader.specs.Listing.{ListsFacts};
 ghost use Rattle.pim_reloader.specs.Reloads.{Reloads};
 ghost use Rattle.pim_router.specs.Asked.{LeadsOn, places_test};
-ghost use Rattle.pim_router.specs.Standing.{beginning, nothing_shown};
+ghost use Rattle.pim_router.specs.Standing.{nothing_shown};
+ghost use Rattle.pim_router.specs.Stepped.{Faults, PutUnder};
 ghost use Rattle.pim_router.specs.Stepping.{Stands};
-ghost use Rattle.pim_state.specs.declared.touched.Touched.{Touched as TouchedValue};
-ghost use Rattle.std.specs.Prelude.{◌≡◌, ◌++◌, ◌↔◌, Err, IfErr, IfOk, IfSome, IsOkUnless, None, Ok, OnErr, OnOk, Some, length, true};
+ghost use Rattle.std.specs.Prelude.{◌≡◌, ◌++◌, Err, IfErr, IfOk, IfSome, IsOkUnless, Ok, OnErr, OnOk, length, true};
 
 use super::{Router, hand_over};
 use crate::probes::Probes;
@@ -42,8 +40,8 @@ impl Router {
         ensures accepted { IfOk result (λ answer. OnOk answer (config_test config.now ≡ Ok tt)) }
         ensures fit { IfSome self.old.standing (λ r. IfOk result (λ answer. OnOk answer
             (are_places (iface_count r.state) (length config.now.interfaces) places.now ≡ true))) }
-        ensures state { IfSome self.old.standing (λ r. IfOk result (λ answer. OnOk answer
-            (self.new.standing ≡ Some (beginning (reload_by r.state places.now config.now draw).0)))) }
+        ensures put { IfSome self.old.standing (λ r. IfOk result (λ answer. OnOk answer
+            (PutUnder r.state (reload_by r.state places.now config.now draw).0 self.new))) }
         ensures sent { IfSome self.old.standing (λ r. IfOk result (λ answer. OnOk answer
             (emissions.new.items ≡ emissions.old.items ++ (reload_by r.state places.now config.now draw).1))) }
         ensures led { IfSome self.old.standing (λ r. IfOk result (λ answer. OnOk answer (IfSome self.new.standing (λ after.
@@ -51,14 +49,9 @@ impl Router {
         ensures refused { IfSome self.old.standing (λ r. IfOk result (λ answer. IfErr answer (λ refusal.
             (places_test r.state places.now config.now ≡ Err refusal)
             × (self.new ≡ self.old) × (emissions.new.items ≡ emissions.old.items)))) }
-        ensures changed { IfSome self.old.standing (λ r. IfOk result (λ answer. OnOk answer
-            (ListsFacts r.state (reload_by r.state places.now config.now draw).0 self.new.changed))) }
-        ensures disturbed { IfOk result (λ answer. OnOk answer
-            (self.new.disturbed ≡ record { touched = TouchedValue.All; replaced = NoneReplaced })) }
         ensures failing { OnErr result (self.new ≡ nothing_shown) }
         ensures silent { OnErr result (emissions.new.items ≡ emissions.old.items) }
-        ensures failed { (result ≡ Err Fault.Failed) ↔ (self.old.standing ≡ None) }
-        ensures fault { IfSome self.old.standing (λ r. IsOkUnless result Fault.Memory) }
+        ensures faults { Faults result self.old.standing }
     {
         self.take_places(draw, config, places, emissions)
     }
@@ -74,21 +67,16 @@ impl Router {
         ensures accepted { IfOk result (λ answer. OnOk answer (config_test config.now ≡ Ok tt)) }
         ensures fit { IfSome self.old.standing (λ r. IfOk result (λ answer. OnOk answer
             (are_places (iface_count r.state) (length config.now.interfaces) places.now ≡ true))) }
-        ensures state { IfSome self.old.standing (λ r. IfOk result (λ answer. OnOk answer
-            (self.new.standing ≡ Some (beginning (reload_by r.state places.now config.now draw).0)))) }
+        ensures put { IfSome self.old.standing (λ r. IfOk result (λ answer. OnOk answer
+            (PutUnder r.state (reload_by r.state places.now config.now draw).0 self.new))) }
         ensures sent { IfSome self.old.standing (λ r. IfOk result (λ answer. OnOk answer
             (emissions.new.items ≡ emissions.old.items ++ (reload_by r.state places.now config.now draw).1))) }
         ensures refused { IfSome self.old.standing (λ r. IfOk result (λ answer. IfErr answer (λ refusal.
             (places_test r.state places.now config.now ≡ Err refusal)
             × (self.new ≡ self.old) × (emissions.new.items ≡ emissions.old.items)))) }
-        ensures changed { IfSome self.old.standing (λ r. IfOk result (λ answer. OnOk answer
-            (ListsFacts r.state (reload_by r.state places.now config.now draw).0 self.new.changed))) }
-        ensures disturbed { IfOk result (λ answer. OnOk answer
-            (self.new.disturbed ≡ record { touched = TouchedValue.All; replaced = NoneReplaced })) }
         ensures failing { OnErr result (self.new ≡ nothing_shown) }
         ensures silent { OnErr result (emissions.new.items ≡ emissions.old.items) }
-        ensures failed { (result ≡ Err Fault.Failed) ↔ (self.old.standing ≡ None) }
-        ensures fault { IfSome self.old.standing (λ r. IsOkUnless result Fault.Memory) }
+        ensures faults { Faults result self.old.standing }
     {
         if self.failed {
             return Err(Fault::Failed);

@@ -1,17 +1,15 @@
 //! Another configuration in a running router.
 ghost use Rattle.law_states.specs.History.{Given};
 ghost use Rattle.law_states.specs.Reloading.{reload};
-ghost use Rattle.pim_event.specs.Replacing.{NoneReplaced};
 ghost use Rattle.pim_ip.specs.declared.fault.Fault.{Fault};
 ghost use Rattle.pim_model.specs.Limits.{config_test};
 ghost use Rattle.pim_model.specs.State.{opening};
-ghost use Rattle.pim_reloader.specs.Listing.{ListsFacts};
 ghost use Rattle.pim_reloader.specs.Reloads.{Reloads};
 ghost use Rattle.pim_router.specs.Asked.{LeadsOn};
-ghost use Rattle.pim_router.specs.Standing.{beginning, nothing_shown};
+ghost use Rattle.pim_router.specs.Standing.{nothing_shown};
+ghost use Rattle.pim_router.specs.Stepped.{Faults, PutUnder};
 ghost use Rattle.pim_router.specs.Stepping.{Stands};
-ghost use Rattle.pim_state.specs.declared.touched.Touched.{Touched as TouchedValue};
-ghost use Rattle.std.specs.Prelude.{◌≡◌, ◌++◌, ◌↔◌, Err, IfErr, IfOk, IfSome, IsOkUnless, None, Ok, OnErr, OnOk, Some};
+ghost use Rattle.std.specs.Prelude.{◌≡◌, ◌++◌, Err, IfErr, IfOk, IfSome, IsOkUnless, Ok, OnErr, OnOk};
 
 use super::{Router, hand_over};
 use crate::probes::Probes;
@@ -36,22 +34,17 @@ impl Router {
         emissions: &mut Vec<Emission>,
     ) -> Result<Result<(), Refusal>, Fault>
         ensures accepted { IfOk result (λ answer. OnOk answer (config_test config.now ≡ Ok tt)) }
-        ensures state { IfSome self.old.standing (λ r. IfOk result (λ answer. OnOk answer
-            (self.new.standing ≡ Some (beginning (reload r.state config.now draw).0)))) }
+        ensures put { IfSome self.old.standing (λ r. IfOk result (λ answer. OnOk answer
+            (PutUnder r.state (reload r.state config.now draw).0 self.new))) }
         ensures sent { IfSome self.old.standing (λ r. IfOk result (λ answer. OnOk answer
             (emissions.new.items ≡ emissions.old.items ++ (reload r.state config.now draw).1))) }
         ensures led { IfSome self.old.standing (λ r. IfOk result (λ answer. OnOk answer (IfSome self.new.standing (λ after.
             LeadsOn r.state (Given.Reload config.now draw) after.state)))) }
         ensures refused { IfOk result (λ answer. IfErr answer (λ refusal. (config_test config.now ≡ Err refusal)
             × (self.new ≡ self.old) × (emissions.new.items ≡ emissions.old.items))) }
-        ensures changed { IfSome self.old.standing (λ r. IfOk result (λ answer. OnOk answer
-            (ListsFacts r.state (reload r.state config.now draw).0 self.new.changed))) }
-        ensures disturbed { IfOk result (λ answer. OnOk answer
-            (self.new.disturbed ≡ record { touched = TouchedValue.All; replaced = NoneReplaced })) }
         ensures failing { OnErr result (self.new ≡ nothing_shown) }
         ensures silent { OnErr result (emissions.new.items ≡ emissions.old.items) }
-        ensures failed { (result ≡ Err Fault.Failed) ↔ (self.old.standing ≡ None) }
-        ensures fault { IfSome self.old.standing (λ r. IsOkUnless result Fault.Memory) }
+        ensures faults { Faults result self.old.standing }
     {
         self.take_config(draw, config, emissions)
     }
@@ -64,20 +57,15 @@ impl Router {
         emissions: &mut Vec<Emission>,
     ) -> Result<Result<(), Refusal>, Fault>
         ensures accepted { IfOk result (λ answer. OnOk answer (config_test config.now ≡ Ok tt)) }
-        ensures state { IfSome self.old.standing (λ r. IfOk result (λ answer. OnOk answer
-            (self.new.standing ≡ Some (beginning (reload r.state config.now draw).0)))) }
+        ensures put { IfSome self.old.standing (λ r. IfOk result (λ answer. OnOk answer
+            (PutUnder r.state (reload r.state config.now draw).0 self.new))) }
         ensures sent { IfSome self.old.standing (λ r. IfOk result (λ answer. OnOk answer
             (emissions.new.items ≡ emissions.old.items ++ (reload r.state config.now draw).1))) }
         ensures refused { IfOk result (λ answer. IfErr answer (λ refusal. (config_test config.now ≡ Err refusal)
             × (self.new ≡ self.old) × (emissions.new.items ≡ emissions.old.items))) }
-        ensures changed { IfSome self.old.standing (λ r. IfOk result (λ answer. OnOk answer
-            (ListsFacts r.state (reload r.state config.now draw).0 self.new.changed))) }
-        ensures disturbed { IfOk result (λ answer. OnOk answer
-            (self.new.disturbed ≡ record { touched = TouchedValue.All; replaced = NoneReplaced })) }
         ensures failing { OnErr result (self.new ≡ nothing_shown) }
         ensures silent { OnErr result (emissions.new.items ≡ emissions.old.items) }
-        ensures failed { (result ≡ Err Fault.Failed) ↔ (self.old.standing ≡ None) }
-        ensures fault { IfSome self.old.standing (λ r. IsOkUnless result Fault.Memory) }
+        ensures faults { Faults result self.old.standing }
     {
         if self.failed {
             return Err(Fault::Failed);

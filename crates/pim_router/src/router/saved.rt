@@ -2,11 +2,12 @@
 ghost use Rattle.pim_ip.specs.declared.fault.Fault.{Fault};
 ghost use Rattle.pim_model.specs.State.{State};
 ghost use Rattle.pim_router.specs.Standing.{begun};
+ghost use Rattle.pim_router.specs.Stepped.{Faults};
 ghost use Rattle.pim_saved.specs.Fits.{FitsState};
 ghost use Rattle.pim_saved.specs.Reading.{reading};
 ghost use Rattle.pim_saved.specs.Text.{text};
 ghost use Rattle.pim_worlds.specs.Resuming.{IsResumable, restore_test};
-ghost use Rattle.std.specs.Prelude.{◌≡◌, ◌++◌, ◌↔◌, Err, IfErr, IfOk, IfSome, IsOkUnless, None, Ok, OnErr, OnOk};
+ghost use Rattle.std.specs.Prelude.{◌≡◌, ◌++◌, Err, IfErr, IfOk, IfSome, Ok, OnErr, OnOk};
 
 use super::Router;
 use crate::probes::Probes;
@@ -25,8 +26,7 @@ impl Router {
         ensures fitting { IfSome self.now.standing (λ r. OnOk result (FitsState r.state)) }
         ensures resumable { IfSome self.now.standing (λ r. IsResumable r.state) }
         ensures silent { OnErr result (out.new.items ≡ out.old.items) }
-        ensures failed { (result ≡ Err Fault.Failed) ↔ (self.now.standing ≡ None) }
-        ensures fault { IfSome self.now.standing (λ r. IsOkUnless result Fault.Memory) }
+        ensures faults { Faults result self.now.standing }
     {
         if self.failed {
             return Err(Fault::Failed);

@@ -1,10 +1,9 @@
 //! Bootstraps (RFC 5059), which a listener in front of the session hears.
-ghost use Rattle.std.specs.Prelude.{◌≡◌, ◌↔◌, Err, IfErr, IfOk, IfSome, IsOk, IsTrue, None, OnErr, OnOk, false};
+ghost use Rattle.std.specs.Prelude.{◌≡◌, Err, IfErr, IfOk, IfSome, IsOk, OnErr, OnOk, false};
 ghost use Rattle.pim_bsr.specs.Hearing.{takes_memory};
 ghost use Rattle.pim_ip.specs.declared.fault.Fault.{Fault};
 ghost use Rattle.pim_session.specs.Heard.{heard_at};
-ghost use Rattle.pim_session.specs.Untaken.{IsMemoryAlone, has_untaken};
-ghost use Rattle.pim_session.specs.declared.stop.Stop.{Stop as StopValue};
+ghost use Rattle.pim_session.specs.Untaken.{IsMemoryAlone, Stops, has_untaken};
 
 use super::Session;
 use crate::asked::Asked;
@@ -32,9 +31,7 @@ impl Session {
         ensures sent { IfSome self.old.router.standing (λ r. OnOk result
             (self.new.sent ≡ (heard_at r.state listener.old iface.number bytes.now).sent)) }
         ensures still { OnErr result ((listener.new ≡ listener.old) × (self.new.sent ≡ self.old.sent)) }
-        ensures untaken { IfSome self.old.router.standing (λ r.
-            (result ≡ Err StopValue.Untaken) ↔ IsTrue (has_untaken self.old)) }
-        ensures failed { (result ≡ Err (StopValue.Fault Fault.Failed)) ↔ (self.old.router.standing ≡ None) }
+        ensures stops { Stops result self.old }
         ensures fault { IfSome self.old.router.standing (λ r. IfErr result IsMemoryAlone) }
         ensures sure { IfSome self.old.router.standing (λ r. has_untaken self.old ≡ false
             → takes_memory (heard_at r.state listener.old iface.number bytes.now).answer ≡ false → IsOk result) }

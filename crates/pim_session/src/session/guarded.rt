@@ -11,7 +11,6 @@ use pim_guard::{stops_frame, stops_unicast};
 use pim_intake::LentEvent;
 use pim_intake::lent::LentKind;
 use pim_types::Fault;
-use std::alloc::Global;
 
 impl Session {
     /// Sets whether the guard is on from then on: it stops what would be forwarded as data though hosts and routers read
@@ -52,7 +51,7 @@ impl Session {
     }
 
     /// Gives the router an empty packet in the place of an event that the guard stops. It refuses this without memory.
-    pub(super) fn stay(&mut self, alloc: Global, draw: u32) -> Stop
+    pub(super) fn stay(&mut self, draw: u32) -> Stop
         requires { IsSome self.old.router.standing }
         ensures stop { result ≡ StopValue.Guarded }
         ensures still { IsStill self.old.router self.new.router }
@@ -60,7 +59,7 @@ impl Session {
             × (self.new.sent ≡ self.old.sent) × (self.new.rows ≡ self.old.rows)
             × (self.new.older_rows ≡ self.old.older_rows) }
     {
-        let mut sent = Vec::new(alloc);
+        let mut sent = Vec::new(self.router.alloc());
         match self
             .router
             .step_lent(&LentEvent::unicast(draw, &[]), &mut sent)

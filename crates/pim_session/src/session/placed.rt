@@ -1,18 +1,14 @@
 //! Another configuration in the session's router, by a map of places.
 ghost use Rattle.law_states.specs.History.{Given};
 ghost use Rattle.law_states.specs.Placing.{reload_by};
-ghost use Rattle.pim_event.specs.Replacing.{NoneReplaced};
 ghost use Rattle.pim_ip.specs.declared.fault.Fault.{Fault};
-ghost use Rattle.pim_reloader.specs.Listing.{ListsFacts};
 ghost use Rattle.pim_router.specs.Asked.{LeadsOn, places_test};
-ghost use Rattle.pim_router.specs.Standing.{beginning};
+ghost use Rattle.pim_router.specs.Stepped.{PutUnder};
 ghost use Rattle.pim_session.specs.Front.{emissions_leaving};
 ghost use Rattle.pim_session.specs.Placed.{front_reloaded_by};
 ghost use Rattle.pim_session.specs.Shared.{reload_tested};
-ghost use Rattle.pim_session.specs.Untaken.{IsMemoryAlone, Stopped, has_untaken};
-ghost use Rattle.pim_session.specs.declared.stop.Stop.{Stop as StopValue};
-ghost use Rattle.pim_state.specs.declared.touched.Touched.{Touched as TouchedValue};
-ghost use Rattle.std.specs.Prelude.{◌≡◌, ◌↔◌, [], Err, IfErr, IfOk, IfSome, IsOkUnless, IsTrue, None, Ok, OnErr, OnOk, Some};
+ghost use Rattle.pim_session.specs.Untaken.{IsMemoryAlone, SettingsStay, Stopped, Stops};
+ghost use Rattle.std.specs.Prelude.{◌≡◌, [], Err, IfErr, IfOk, IfSome, IsOkUnless, None, Ok, OnErr, OnOk, Some};
 
 use super::Session;
 use crate::behind::times_in;
@@ -21,7 +17,7 @@ use crate::refused::ReloadRefusal;
 use crate::stop::Stop;
 use pim_router::Router;
 use pim_types::{Config, Emission, Fault, Refusal};
-use std::alloc::{AllocError, Global};
+use std::alloc::AllocError;
 use std::mem;
 
 impl Session {
@@ -37,36 +33,28 @@ impl Session {
     #[tactic(auto, unfolding(crate::specs::Shared::reload_tested))]
     pub fn reload_places(
         &mut self,
-        alloc: Global,
         draw: u32,
         config: &Config,
         places: &[Option<u32>],
     ) -> Result<Result<(), ReloadRefusal>, Stop>
         ensures accepted { IfSome self.old.router.standing (λ r. IfOk result (λ answer. OnOk answer
             (reload_tested self.old.sets config.now (places_test r.state places.now config.now) ≡ Ok tt))) }
-        ensures state { IfSome self.old.router.standing (λ r. IfOk result (λ answer. OnOk answer
-            (self.new.router.standing ≡ Some (beginning (reload_by r.state places.now config.now draw).0)))) }
+        ensures put { IfSome self.old.router.standing (λ r. IfOk result (λ answer. OnOk answer
+            (PutUnder r.state (reload_by r.state places.now config.now draw).0 self.new.router))) }
         ensures sent { IfSome self.old.router.standing (λ r. IfOk result (λ answer. OnOk answer
             (self.new.sent ≡ emissions_leaving self.old.front (reload_by r.state places.now config.now draw).1))) }
         ensures led { IfSome self.old.router.standing (λ r. IfOk result (λ answer. OnOk answer (IfSome self.new.router.standing (λ after.
             LeadsOn r.state (Given.Placed places.now config.now draw) after.state)))) }
         ensures front { IfSome self.old.router.standing (λ r. IfOk result (λ answer. OnOk answer
             (self.new.front ≡ front_reloaded_by places.now (reload_by r.state places.now config.now draw).0 self.old.front))) }
-        ensures changed { IfSome self.old.router.standing (λ r. IfOk result (λ answer. OnOk answer
-            (ListsFacts r.state (reload_by r.state places.now config.now draw).0 self.new.router.changed))) }
-        ensures disturbed { IfOk result (λ answer. OnOk answer
-            (self.new.router.disturbed ≡ record { touched = TouchedValue.All; replaced = NoneReplaced })) }
-        ensures guard { self.new.guard ≡ self.old.guard }
-        ensures sets { self.new.sets ≡ self.old.sets }
+        ensures settings { SettingsStay self.old self.new }
         ensures rows { IfOk result (λ answer. OnOk answer ((self.new.rows ≡ []) × (self.new.older_rows ≡ []))) }
         ensures refused { IfSome self.old.router.standing (λ r. IfOk result (λ answer. IfErr answer (λ refusal.
             (reload_tested self.old.sets config.now (places_test r.state places.now config.now) ≡ Err refusal) × (self.new ≡ self.old)))) }
-        ensures untaken { IfSome self.old.router.standing (λ r.
-            (result ≡ Err StopValue.Untaken) ↔ IsTrue (has_untaken self.old)) }
+        ensures stops { Stops result self.old }
         ensures stopped { IfErr result (λ stop. Stopped stop self.old self.new) }
         ensures silent { OnErr result ((self.new.sent ≡ self.old.sent) × (self.new.rows ≡ self.old.rows)
             × (self.new.older_rows ≡ self.old.older_rows)) }
-        ensures failed { (result ≡ Err (StopValue.Fault Fault.Failed)) ↔ (self.old.router.standing ≡ None) }
         ensures fault { IfSome self.old.router.standing (λ r. IfErr result IsMemoryAlone) }
     {
         if self.is_lost {
@@ -78,18 +66,11 @@ impl Session {
         if !self.fits(config) {
             return Ok(Err(ReloadRefusal::SetsDontFit));
         }
-        match reload(
-            alloc,
-            self.router.as_mut(),
-            &mut self.front,
-            draw,
-            config,
-            places,
-        ) {
+        match reload(self.router.as_mut(), &mut self.front, draw, config, places) {
             Ok(Ok(sent)) => {
                 self.keep_sent(sent);
-                self.rows = Vec::new(alloc);
-                self.older_rows = Vec::new(alloc);
+                self.rows = Vec::new(self.router.alloc());
+                self.older_rows = Vec::new(self.router.alloc());
                 Ok(Ok(()))
             }
             Ok(Err(refusal)) => Ok(Err(ReloadRefusal::Configuration(refusal))),
@@ -104,7 +85,6 @@ impl Session {
 // What leaves of what the router sent, and what stands before it by a map of places, if anything does.
 #[tactic(auto, unfolding(crate::specs::Front::emissions_leaving, crate::specs::Placed::front_reloaded_by))]
 fn follow(
-    alloc: Global,
     router: &Router,
     front: Option<Front>,
     places: &[Option<u32>],
@@ -117,7 +97,7 @@ fn follow(
     let Some(mut standing) = front else {
         return Ok((sent, None));
     };
-    let left = standing.emissions_leaving(alloc, sent)?;
+    let left = standing.emissions_leaving(router.alloc(), sent)?;
     standing.place(
         router.limit(),
         router.interface_count(),
@@ -131,7 +111,6 @@ fn follow(
 // stands before the router is lost by a fault.
 #[tactic(auto, unfolding(pim_router::specs::Asked::places_test))]
 fn reload(
-    alloc: Global,
     router: &mut Router,
     front: &mut Option<Front>,
     draw: u32,
@@ -140,26 +119,22 @@ fn reload(
 ) -> Result<Result<Vec<Emission>, Refusal>, Fault>
     ensures accepted { IfSome router.old.standing (λ r. IfOk result (λ answer. OnOk answer
         (places_test r.state places.now config.now ≡ Ok tt))) }
-    ensures state { IfSome router.old.standing (λ r. IfOk result (λ answer. OnOk answer
-        (router.new.standing ≡ Some (beginning (reload_by r.state places.now config.now draw).0)))) }
+    ensures put { IfSome router.old.standing (λ r. IfOk result (λ answer. OnOk answer
+        (PutUnder r.state (reload_by r.state places.now config.now draw).0 router.new))) }
     ensures sent { IfSome router.old.standing (λ r. IfOk result (λ answer. IfOk answer (λ sent.
         sent.items ≡ emissions_leaving front.old (reload_by r.state places.now config.now draw).1))) }
     ensures led { IfSome router.old.standing (λ r. IfOk result (λ answer. OnOk answer (IfSome router.new.standing (λ after.
         LeadsOn r.state (Given.Placed places.now config.now draw) after.state)))) }
     ensures front { IfSome router.old.standing (λ r. IfOk result (λ answer. OnOk answer
         (front.new ≡ front_reloaded_by places.now (reload_by r.state places.now config.now draw).0 front.old))) }
-    ensures changed { IfSome router.old.standing (λ r. IfOk result (λ answer. OnOk answer
-        (ListsFacts r.state (reload_by r.state places.now config.now draw).0 router.new.changed))) }
-    ensures disturbed { IfOk result (λ answer. OnOk answer
-        (router.new.disturbed ≡ record { touched = TouchedValue.All; replaced = NoneReplaced })) }
     ensures refused { IfSome router.old.standing (λ r. IfOk result (λ answer. IfErr answer (λ refusal.
         (places_test r.state places.now config.now ≡ Err refusal) × (router.new ≡ router.old) × (front.new ≡ front.old)))) }
     ensures fault { IfSome router.old.standing (λ r. IsOkUnless result Fault.Memory) }
 {
-    let mut sent = Vec::new(alloc);
+    let mut sent = Vec::new(router.alloc());
     match router.reload_places(draw, config, places, &mut sent)? {
         Ok(()) => {
-            let (left, after) = follow(alloc, router, mem::replace(front, None), places, sent)?;
+            let (left, after) = follow(router, mem::replace(front, None), places, sent)?;
             *front = after;
             Ok(Ok(left))
         }

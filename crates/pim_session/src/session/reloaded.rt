@@ -1,19 +1,15 @@
 //! Another configuration in the session's router.
 ghost use Rattle.law_states.specs.History.{Given};
 ghost use Rattle.law_states.specs.Reloading.{reload};
-ghost use Rattle.pim_event.specs.Replacing.{NoneReplaced};
 ghost use Rattle.pim_ip.specs.declared.fault.Fault.{Fault};
 ghost use Rattle.pim_model.specs.Limits.{config_test};
-ghost use Rattle.pim_reloader.specs.Listing.{ListsFacts};
 ghost use Rattle.pim_router.specs.Asked.{LeadsOn};
-ghost use Rattle.pim_router.specs.Standing.{beginning};
+ghost use Rattle.pim_router.specs.Stepped.{PutUnder};
 ghost use Rattle.pim_session.specs.Front.{emissions_leaving};
 ghost use Rattle.pim_session.specs.Reloaded.{front_reloaded};
 ghost use Rattle.pim_session.specs.Shared.{reload_tested};
-ghost use Rattle.pim_session.specs.Untaken.{IsMemoryAlone, Stopped, has_untaken};
-ghost use Rattle.pim_session.specs.declared.stop.Stop.{Stop as StopValue};
-ghost use Rattle.pim_state.specs.declared.touched.Touched.{Touched as TouchedValue};
-ghost use Rattle.std.specs.Prelude.{◌≡◌, ◌↔◌, [], Err, IfErr, IfOk, IfSome, IsOkUnless, IsTrue, None, Ok, OnErr, OnOk, Some};
+ghost use Rattle.pim_session.specs.Untaken.{IsMemoryAlone, SettingsStay, Stopped, Stops};
+ghost use Rattle.std.specs.Prelude.{◌≡◌, [], Err, IfErr, IfOk, IfSome, IsOkUnless, None, Ok, OnErr, OnOk, Some};
 
 use super::Session;
 use crate::behind::times_in;
@@ -22,7 +18,7 @@ use crate::refused::ReloadRefusal;
 use crate::stop::Stop;
 use pim_router::Router;
 use pim_types::{Config, Emission, Fault, Refusal};
-use std::alloc::{AllocError, Global};
+use std::alloc::AllocError;
 use std::mem;
 
 impl Session {
@@ -34,37 +30,25 @@ impl Session {
     /// refusal changes nothing. While packets of the event before are untaken the answer is `Untaken`, and nothing changes. After a fault the rows are
     /// unchanged, and the session answers `Failed` from then on.
     #[tactic(auto, unfolding(crate::specs::Shared::reload_tested))]
-    pub fn reload(
-        &mut self,
-        alloc: Global,
-        draw: u32,
-        config: &Config,
-    ) -> Result<Result<(), ReloadRefusal>, Stop>
+    pub fn reload(&mut self, draw: u32, config: &Config) -> Result<Result<(), ReloadRefusal>, Stop>
         ensures accepted { IfSome self.old.router.standing (λ r. IfOk result (λ answer. OnOk answer
             (reload_tested self.old.sets config.now (config_test config.now) ≡ Ok tt))) }
-        ensures state { IfSome self.old.router.standing (λ r. IfOk result (λ answer. OnOk answer
-            (self.new.router.standing ≡ Some (beginning (reload r.state config.now draw).0)))) }
+        ensures put { IfSome self.old.router.standing (λ r. IfOk result (λ answer. OnOk answer
+            (PutUnder r.state (reload r.state config.now draw).0 self.new.router))) }
         ensures sent { IfSome self.old.router.standing (λ r. IfOk result (λ answer. OnOk answer
             (self.new.sent ≡ emissions_leaving self.old.front (reload r.state config.now draw).1))) }
         ensures led { IfSome self.old.router.standing (λ r. IfOk result (λ answer. OnOk answer (IfSome self.new.router.standing (λ after.
             LeadsOn r.state (Given.Reload config.now draw) after.state)))) }
         ensures front { IfSome self.old.router.standing (λ r. IfOk result (λ answer. OnOk answer
             (self.new.front ≡ front_reloaded (reload r.state config.now draw).0 self.old.front))) }
-        ensures changed { IfSome self.old.router.standing (λ r. IfOk result (λ answer. OnOk answer
-            (ListsFacts r.state (reload r.state config.now draw).0 self.new.router.changed))) }
-        ensures disturbed { IfOk result (λ answer. OnOk answer
-            (self.new.router.disturbed ≡ record { touched = TouchedValue.All; replaced = NoneReplaced })) }
-        ensures guard { self.new.guard ≡ self.old.guard }
-        ensures sets { self.new.sets ≡ self.old.sets }
+        ensures settings { SettingsStay self.old self.new }
         ensures rows { IfOk result (λ answer. OnOk answer ((self.new.rows ≡ []) × (self.new.older_rows ≡ []))) }
         ensures refused { IfOk result (λ answer. IfErr answer (λ refusal. (reload_tested self.old.sets config.now (config_test config.now) ≡ Err refusal)
             × (self.new ≡ self.old))) }
-        ensures untaken { IfSome self.old.router.standing (λ r.
-            (result ≡ Err StopValue.Untaken) ↔ IsTrue (has_untaken self.old)) }
+        ensures stops { Stops result self.old }
         ensures stopped { IfErr result (λ stop. Stopped stop self.old self.new) }
         ensures silent { OnErr result ((self.new.sent ≡ self.old.sent) × (self.new.rows ≡ self.old.rows)
             × (self.new.older_rows ≡ self.old.older_rows)) }
-        ensures failed { (result ≡ Err (StopValue.Fault Fault.Failed)) ↔ (self.old.router.standing ≡ None) }
         ensures fault { IfSome self.old.router.standing (λ r. IfErr result IsMemoryAlone) }
     {
         if self.is_lost {
@@ -76,11 +60,11 @@ impl Session {
         if !self.fits(config) {
             return Ok(Err(ReloadRefusal::SetsDontFit));
         }
-        match reload(alloc, self.router.as_mut(), &mut self.front, draw, config) {
+        match reload(self.router.as_mut(), &mut self.front, draw, config) {
             Ok(Ok(sent)) => {
                 self.keep_sent(sent);
-                self.rows = Vec::new(alloc);
-                self.older_rows = Vec::new(alloc);
+                self.rows = Vec::new(self.router.alloc());
+                self.older_rows = Vec::new(self.router.alloc());
                 Ok(Ok(()))
             }
             Ok(Err(refusal)) => Ok(Err(ReloadRefusal::Configuration(refusal))),
@@ -95,7 +79,6 @@ impl Session {
 // What leaves of what the router sent, and what stands before it under another configuration, if anything does.
 #[tactic(auto, unfolding(crate::specs::Front::emissions_leaving, crate::specs::Reloaded::front_reloaded))]
 fn follow(
-    alloc: Global,
     router: &Router,
     front: Option<Front>,
     sent: Vec<Emission>,
@@ -106,7 +89,7 @@ fn follow(
     let Some(mut standing) = front else {
         return Ok((sent, None));
     };
-    let left = standing.emissions_leaving(alloc, sent)?;
+    let left = standing.emissions_leaving(router.alloc(), sent)?;
     standing.resize(router.limit(), router.interface_count(), times_in(router))?;
     Ok((left, Some(standing)))
 }
@@ -114,33 +97,28 @@ fn follow(
 // Puts a router under another configuration, and what stands before it. The result is what leaves. What stands before the
 // router is lost by a fault.
 fn reload(
-    alloc: Global,
     router: &mut Router,
     front: &mut Option<Front>,
     draw: u32,
     config: &Config,
 ) -> Result<Result<Vec<Emission>, Refusal>, Fault>
     ensures accepted { IfSome router.old.standing (λ r. IfOk result (λ answer. OnOk answer (config_test config.now ≡ Ok tt))) }
-    ensures state { IfSome router.old.standing (λ r. IfOk result (λ answer. OnOk answer
-        (router.new.standing ≡ Some (beginning (reload r.state config.now draw).0)))) }
+    ensures put { IfSome router.old.standing (λ r. IfOk result (λ answer. OnOk answer
+        (PutUnder r.state (reload r.state config.now draw).0 router.new))) }
     ensures sent { IfSome router.old.standing (λ r. IfOk result (λ answer. IfOk answer (λ sent.
         sent.items ≡ emissions_leaving front.old (reload r.state config.now draw).1))) }
     ensures led { IfSome router.old.standing (λ r. IfOk result (λ answer. OnOk answer (IfSome router.new.standing (λ after.
         LeadsOn r.state (Given.Reload config.now draw) after.state)))) }
     ensures front { IfSome router.old.standing (λ r. IfOk result (λ answer. OnOk answer
         (front.new ≡ front_reloaded (reload r.state config.now draw).0 front.old))) }
-    ensures changed { IfSome router.old.standing (λ r. IfOk result (λ answer. OnOk answer
-        (ListsFacts r.state (reload r.state config.now draw).0 router.new.changed))) }
-    ensures disturbed { IfOk result (λ answer. OnOk answer
-        (router.new.disturbed ≡ record { touched = TouchedValue.All; replaced = NoneReplaced })) }
     ensures refused { IfOk result (λ answer. IfErr answer (λ refusal. (config_test config.now ≡ Err refusal)
         × (router.new ≡ router.old) × (front.new ≡ front.old))) }
     ensures fault { IfSome router.old.standing (λ r. IsOkUnless result Fault.Memory) }
 {
-    let mut sent = Vec::new(alloc);
+    let mut sent = Vec::new(router.alloc());
     match router.reload(draw, config, &mut sent)? {
         Ok(()) => {
-            let (left, after) = follow(alloc, router, mem::replace(front, None), sent)?;
+            let (left, after) = follow(router, mem::replace(front, None), sent)?;
             *front = after;
             Ok(Ok(left))
         }

@@ -3,10 +3,11 @@ ghost use Rattle.igmp_older_saved.specs.Reading.{held_reading, held_restore_test
 ghost use Rattle.igmp_older_saved.specs.Text.{Held, held_text, FitsHeld};
 ghost use Rattle.pim_ip.specs.declared.fault.Fault.{Fault};
 ghost use Rattle.pim_router.specs.Standing.{begun};
+ghost use Rattle.pim_router.specs.Stepped.{Faults};
 ghost use Rattle.pim_session.specs.Leaving.{GoesOnFrom};
 ghost use Rattle.pim_session.specs.Saved.{front_resumed, saved_parts};
 ghost use Rattle.pim_worlds.specs.Resuming.{IsResumable};
-ghost use Rattle.std.specs.Prelude.{◌≡◌, ◌++◌, ◌↔◌, [], Err, IfErr, IfOk, IfSome, IsOkUnless, None, Ok, OnErr, OnOk, true};
+ghost use Rattle.std.specs.Prelude.{◌≡◌, ◌++◌, [], Err, IfErr, IfOk, IfSome, Ok, OnErr, OnOk, true};
 
 use super::Session;
 use crate::saved;
@@ -43,8 +44,7 @@ impl Session {
         ensures fitting { IfSome self.now.router.standing (λ r. OnOk result (FitsHeld (saved_parts r.state self.now.front))) }
         ensures resumable { IfSome self.now.router.standing (λ r. IsResumable r.state) }
         ensures silent { OnErr result (out.new.items ≡ out.old.items) }
-        ensures failed { (result ≡ Err Fault.Failed) ↔ (self.now.router.standing ≡ None) }
-        ensures fault { IfSome self.now.router.standing (λ r. IsOkUnless result Fault.Memory) }
+        ensures faults { Faults result self.now.router.standing }
     {
         if self.is_lost {
             return Err(Fault::Failed);

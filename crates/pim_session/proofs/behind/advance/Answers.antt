@@ -10,11 +10,11 @@ returns-in_err-answer-clause-sure c =
 pub returns-then-is_done-clause-took : goal.returns-then-is_done-clause-took
 returns-then-is_done-clause-took c =
     advance_took c.args.router.now.standing c.args.front.now c.args.event.now c.args.moment c.args.sent.now.items c.in_ok-answer.answer
-    c.give.new.router c.give.new.sent.items _ c.forget.new.self (rw c.of.ensures at c.forget.ensures) c.requires c.in_ok-answer.ensures.gave
+    c.give.new.router c.give.new.sent.items _ c.forget.new.self (rw c.of.ensures at c.forget.ensures) c.requires c.in_ok-answer.ensures.stepped
     (rw (← c.is_done.ensures) (rw c.if-is_done.true refl))
 
 pub returns-else-is_done-clause-took : goal.returns-else-is_done-clause-took
 returns-else-is_done-clause-took c =
     advance_took c.args.router.now.standing c.args.front.now c.args.event.now c.args.moment c.args.sent.now.items c.in_ok-answer.answer
-    c.give.new.router c.give.new.sent.items c.args.front.now.present c.args.front.now refl c.requires c.in_ok-answer.ensures.gave
+    c.give.new.router c.give.new.sent.items c.args.front.now.present c.args.front.now refl c.requires c.in_ok-answer.ensures.stepped
     (rw (← c.is_done.ensures) (rw c.if-is_done.false refl))

@@ -10,4 +10,4 @@ returns-in_err-answer-clause-sure c =
 pub returns-clause-took : goal.returns-clause-took
 returns-clause-took c =
     plain_took c.args.router.now.standing c.args.front.now c.args.event.now c.args.sent.now.items c.in_ok-answer.answer
-    c.give.new.router c.give.new.sent.items c.requires c.in_ok-answer.ensures.gave
+    c.give.new.router c.give.new.sent.items c.requires c.in_ok-answer.ensures.stepped

@@ -10,4 +10,4 @@ returns-in_err-answer-clause-sure c = rw (← c.replace.ensures.value) (rw c.in_
 pub returns-in_default-clause-took : goal.returns-in_default-clause-took
 returns-in_default-clause-took c =
     all_alone c.args.router.now.standing c.args.front.now c.args.event.now c.in_ok-answer.answer c.give.new.router c.give.new.sent.items
-    c.replace.new.dest (sym c.replace.ensures.value ∙ c.in_default.is) c.replace.ensures.after (rw c.new-sent.ensures.items at c.in_ok-answer.ensures.gave)
+    c.replace.new.dest (sym c.replace.ensures.value ∙ c.in_default.is) c.replace.ensures.after (rw c.new-sent.ensures.items at c.in_ok-answer.ensures.stepped)

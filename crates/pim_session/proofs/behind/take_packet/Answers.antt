@@ -9,4 +9,4 @@ returns-clause-took c =
     let told = c.frame.ensures ∙ ap (λ (xs : List ℕ). frame_event c.args.draw c.args.iface xs) packet in
     packet_took c.args.router.now.standing c.args.front.now c.args.draw c.args.iface c.args.bytes.now _ c.packet_of-packet.result.now c.in_ok-given.given c.frame.result
     c.args.sent.now.items c.in_ok-answer.answer c.give.new.router c.give.new.sent.items c.membership_end-end.result c.note.new.self
-    gives told c.in_ok-answer.ensures.gave c.membership_end-end.ensures packet c.in_ok-note.ensures.ok
+    gives told c.in_ok-answer.ensures.stepped c.membership_end-end.ensures packet c.in_ok-note.ensures.ok

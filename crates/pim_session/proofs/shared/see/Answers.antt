@@ -9,5 +9,4 @@ returns-clause-took c =
     c.args.name.group.bits c.args.name.source.bits c.is_settled-before.result c.in_ok-answer.answer c.packet_seen.new.self
     c.packet_seen.new.emissions.items c.in_ok-more.more.items c.in_ok-left.left.items c.is_settled-before.ensures
     (rw c.of.ensures at c.in_ok-more.ensures.value) c.in_ok-left.ensures.joined
-    c.in_ok-answer.ensures.answer c.in_ok-answer.ensures.state c.in_ok-answer.ensures.cheap c.in_ok-answer.ensures.changed
-    c.in_ok-answer.ensures.disturbed c.in_ok-answer.ensures.stays (rw c.new-sent.ensures.items at c.in_ok-answer.ensures.sent)
+    (rw c.new-sent.ensures.items at c.in_ok-answer.ensures.stepped)

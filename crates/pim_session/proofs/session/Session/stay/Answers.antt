@@ -5,8 +5,8 @@ use Rattle.pim_session.proofs.session.Session.stay.Goals as goal
 pub returns-in-Ok-clause-still : goal.returns-in-Ok-clause-still
 returns-in-Ok-clause-still c =
     stays_still c.self.inside.is_lost c.args.self.now.router c.self.inside.router.value c.deref_mut.result.now c.step_lent.new.self c.unicast.result c.args.draw
-    (ap (λ (s : ShownSession). s.router) c.self.view_is) c.deref_mut.ensures.value c.unicast.ensures c.requires
-    c.in-Ok.ensures.state c.in-Ok.ensures.changed c.in-Ok.ensures.disturbed
+    _ _ _ (ap (λ (s : ShownSession). s.router) c.self.view_is) c.deref_mut.ensures.value c.unicast.ensures c.requires
+    c.in-Ok.ensures.stepped
 
 pub returns-clause-stop : goal.returns-clause-stop
 returns-clause-stop c =
