@@ -24,8 +24,8 @@ DEBIAN = "/usr/bin"
 LONG = ("embed", "check_counts", "why", "lab", "pimlab", "unproved", "mend", "mroute", "usual_mistakes", "recorded",
     "play")
 ALONE = ("beside", "check_counts", "check_docs", "cited", "copies", "crates_table", "edits", "embed", "gate",
-    "gate_times", "hostile", "lint", "packets", "rt", "spoils", "tables", "together", "told", "torture", "try_all",
-    "try_edits", "unused", "wrong_definitions")
+    "gate_times", "hostile", "lint", "module_times", "packets", "rt", "spoils", "tables", "together", "told", "torture",
+    "try_all", "try_edits", "unused", "wrong_definitions")
 
 
 @dataclass(frozen=True)
@@ -65,6 +65,7 @@ def alone_first() -> Iterator[Part]:
     for words in ("unused", "cited --check", "check_counts", "crates_table --check", "bundle_definitions --check",
                   "tables", "lint", "try_edits --front --changed"):
         yield tool(f"dev/{words}", alone=True)
+    yield Part("counts", ("dev/counts",), alone=True)
     yield Part("linux_layout", ("cargo", "fmt", "--check"), "linux", alone=True)
     yield Part("rust_layout", ("cargo", "fmt", "--check"), "bindings/rust", alone=True)
 
@@ -84,7 +85,8 @@ def tests(alone: bool) -> Iterator[Part]:
 # What `torture/run` runs on a small size: that it finds what it should. Figures of the last three say nothing.
 SMALL = {
     "restarted": "--unproved --runs 10 --spoilt 20 --facts 1000", "plane": "--unproved --runs 100",
-    "memory": "--unproved --seconds 20", "program": "--every 10", "events": "--unproved --facts 10",
+    "memory": "--unproved --seconds 20", "program": "--every 10",
+    "bootstraps": "--unproved --seconds 10 --storm 10", "events": "--unproved --facts 10",
     "forward": "--unproved --rows 10 --copies 1 --packets 640", "timers": "--unproved 1 '' 1000",
 }
 

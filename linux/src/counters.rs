@@ -7,6 +7,8 @@ use std::time::Duration;
 pub struct Counters {
     /// Events that the library refused, by the number of the answer.
     pub refused: BTreeMap<u32, u64>,
+    /// Bootstraps that didn't count, by the number of the answer.
+    pub bootstraps_left_out: BTreeMap<u32, u64>,
     /// PIM from and to addresses of routers.
     pub unicasts: Passing,
     /// How long an event took, with all that followed of it.
@@ -32,8 +34,6 @@ pub struct Counters {
     pub reloaded: u64,
     /// The number of Bootstraps that counted.
     pub bootstraps_taken: u64,
-    /// The number of Bootstraps that didn't count.
-    pub bootstraps_left_out: u64,
     /// The number of times that Bootstraps moved the RPs.
     pub bootstrap_moves: u64,
     /// The number of reports of programs on the router.
@@ -64,6 +64,16 @@ pub struct Counters {
     pub entries_refused: u64,
 }
 
+impl Counters {
+    /// How many Bootstraps didn't count, by the reason in words.
+    pub fn left_out(&self) -> impl Iterator<Item = (&'static str, u64)> + '_ {
+        self.bootstraps_left_out.iter().map(|(number, count)| {
+            let words = viqeshor::answer_text(*number);
+            (words.strip_prefix("ignored: ").unwrap_or(words), *count)
+        })
+    }
+}
+
 /// What a message of PIM or IGMP is.
 #[derive(Clone, Copy, Debug, PartialEq, Eq)]
 pub enum Message {
@@ -73,6 +83,7 @@ pub enum Message {
     RegisterStop,
     JoinPrune,
     Assert,
+    Bootstrap,
     OtherPim,
     Query,
     Report,
@@ -82,13 +93,14 @@ pub enum Message {
 }
 
 impl Message {
-    pub const ALL: [Message; 11] = [
+    pub const ALL: [Message; 12] = [
         Message::Hello,
         Message::Register,
         Message::NullRegister,
         Message::RegisterStop,
         Message::JoinPrune,
         Message::Assert,
+        Message::Bootstrap,
         Message::OtherPim,
         Message::Query,
         Message::Report,
@@ -109,6 +121,7 @@ impl Message {
             Message::RegisterStop => "register_stop",
             Message::JoinPrune => "join_prune",
             Message::Assert => "assert",
+            Message::Bootstrap => "bootstrap",
             Message::OtherPim | Message::OtherIgmp => "other",
             Message::Query => "query",
             Message::Report => "report",

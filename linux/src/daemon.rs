@@ -171,6 +171,8 @@ pub struct Daemon {
     said: Said<(Kind, Option<u32>)>,
     /// Interfaces with hosts of which a line said that these may speak PIM.
     open: BTreeSet<u32>,
+    /// The elected BSR, and since when.
+    pub bsr_since: Option<(Ipv4Addr, u64)>,
     /// The designated router of each link.
     designated: BTreeMap<u32, Ipv4Addr>,
     pace: Pace,
@@ -253,6 +255,7 @@ impl Daemon {
             stale: Stale::default(),
             said: Said::default(),
             open: BTreeSet::new(),
+            bsr_since: None,
             designated: BTreeMap::new(),
             pace: Pace::default(),
             in_hand: None,

@@ -165,6 +165,11 @@ fn refusals(daemon: &Daemon, text: &mut Text) {
     for (number, count) in &daemon.counters.refused {
         text.sample(families::EVENTS_REFUSED_TOTAL.name, &[("reason", viqeshor::answer_text(*number))], count);
     }
+    const LEFT_OUT: &Family = &families::BOOTSTRAPS_LEFT_OUT_BY_REASON_TOTAL;
+    text.family(LEFT_OUT);
+    for (reason, count) in daemon.counters.left_out() {
+        text.sample(LEFT_OUT.name, &[("reason", reason)], count);
+    }
     text.family(&families::POLICY_REFUSED_TOTAL);
     for (cause, place, count) in daemon.policy.refusals.by_cause() {
         text.sample(families::POLICY_REFUSED_TOTAL.name, &[("interface", place), ("setting", cause.name())], count);

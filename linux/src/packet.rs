@@ -172,6 +172,7 @@ pub fn message_of(packet: Packet) -> Option<Message> {
         (PIM, 0x21) => Some(Message::Register),
         (PIM, 0x22) => Some(Message::RegisterStop),
         (PIM, 0x23) => Some(Message::JoinPrune),
+        (PIM, 0x24) => Some(Message::Bootstrap),
         (PIM, 0x25) => Some(Message::Assert),
         (PIM, _) => Some(Message::OtherPim),
         (IGMP, 0x11) => Some(Message::Query),

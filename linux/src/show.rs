@@ -232,6 +232,7 @@ fn rp(daemon: &mut Daemon) -> Result<Rows, Fatal> {
             ("next_hop", way.map_or(Value::Null, |(_, hop)| json!(hop.to_string()))),
             ("used_by", json!(groups.iter().filter(is_used).count())),
             ("from", json!(if rp.learned.is_some() { "bsr" } else { "file" })),
+            ("priority", rp.learned.map_or(Value::Null, |learned| json!(learned.priority))),
             ("expires_seconds", until(rp.learned.map(|learned| learned.end), now)),
         ]
     };
@@ -241,6 +242,7 @@ fn rp(daemon: &mut Daemon) -> Result<Rows, Fatal> {
 /// The elected BSR, the RPs that are learned, and those that wait for other fragments of their message.
 fn bsr(daemon: &mut Daemon) -> Rows {
     let now = daemon.now();
+    let since = daemon.bsr_since.map_or(Value::Null, |(_, since)| seconds(now.saturating_sub(since)));
     let row = |what: &str, groups: Value, address: Ipv4Addr, priority: u32, (in_use, end): (Value, u64)| {
         vec![
             ("what", json!(what)),
@@ -248,6 +250,7 @@ fn bsr(daemon: &mut Daemon) -> Rows {
             ("address", json!(address.to_string())),
             ("priority", json!(priority)),
             ("in_use", in_use),
+            ("up_seconds", if what == "BSR" { since.clone() } else { Value::Null }),
             ("expires_seconds", until(Some(end), now)),
         ]
     };
@@ -397,9 +400,10 @@ pub fn counts(daemon: &Daemon) -> Vec<Count> {
         count(&families::ROUTER_MADE_ANEW_TOTAL, it.made_anew),
         count(&families::ROUTER_RELOADED_TOTAL, it.reloaded),
         count(&families::BOOTSTRAPS_TAKEN_TOTAL, it.bootstraps_taken),
-        count(&families::BOOTSTRAPS_LEFT_OUT_TOTAL, it.bootstraps_left_out),
+        count(&families::BOOTSTRAPS_LEFT_OUT_TOTAL, it.bootstraps_left_out.values().sum()),
         count(&families::BOOTSTRAP_MOVES_TOTAL, it.bootstrap_moves),
         count(&families::BOOTSTRAP_RPS, daemon.core.learned().len() as u64),
+        count(&families::BOOTSTRAP_RANGES, daemon.core.learned().iter().filter(|rp| rp.is_given).count() as u64),
         count(&families::OWN_REPORTS_TOTAL, it.own_reports),
         count(&families::UNICASTS_RECEIVED_TOTAL, it.unicasts_heard),
         count(&families::UNICASTS_SENT_TOTAL, it.unicasts_sent),
@@ -427,7 +431,9 @@ fn counters(daemon: &mut Daemon) -> Result<Rows, Fatal> {
     let counts = counts(daemon).into_iter().map(|it| (it.family.counts().to_string(), it.value));
     let refused = daemon.counters.refused.iter();
     let reasons = refused.map(|(number, count)| (format!("refused: {}", viqeshor::answer_text(*number)), *count));
-    let all = began.chain(counts).chain(reasons).chain(daemon.policy.refusals.counts());
+    let left_out = daemon.counters.left_out();
+    let left_out = left_out.map(|(reason, count)| (format!("Bootstraps that didn't count: {reason}"), count));
+    let all = began.chain(counts).chain(reasons).chain(left_out).chain(daemon.policy.refusals.counts());
     Ok(all.map(|(name, count)| vec![("counter", json!(name)), ("count", json!(count))]).collect())
 }
 

@@ -48,9 +48,23 @@ fn pim(bytes: &[u8]) -> Option<String> {
             Some(format!("PIM Register-Stop of ({}, {})", star(address(bytes, 14)), address(bytes, 8)))
         }
         0x23 => join_prune(bytes),
+        0x24 => bootstrap(bytes),
         0x25 => assert(bytes),
         other => Some(format!("PIM version {}, type {}", other >> 4, other & 15)),
     }
+}
+
+/// Of RFC 5059, section 4.1: each range with as many RPs as it has here, of how many.
+fn bootstrap(bytes: &[u8]) -> Option<String> {
+    const RANGES: usize = 14;
+    const RP: usize = 10;
+    let (priority, mut at, mut ranges) = (bytes.get(7)?, RANGES, Vec::new());
+    while let Some(range) = bytes.get(at..at + 12) {
+        ranges.push(format!("{}/{} ({} of {})", address(range, 4), range[3], range[9], range[8]));
+        at += range.len() + RP * usize::from(range[9]);
+    }
+    let bsr = (bytes.len() >= RANGES).then(|| address(bytes, 10))?;
+    Some(format!("PIM Bootstrap of {bsr}, priority {priority}, with RPs of {}", listed(ranges)))
 }
 
 fn star(source: Ipv4Addr) -> String {
@@ -229,6 +243,10 @@ mod tests {
         );
         let assert = [0x25, 0, 0, 0, 1, 0, 0, 32, 239, 1, 1, 1, 1, 0, 10, 1, 0, 50, 0x80, 0, 0, 110, 0, 0, 0, 20];
         assert_eq!(said(PIM, &assert), "PIM Assert of (10.1.0.50, 239.1.1.1, rpt), preference 110, metric 20");
+        let mut bootstrap = vec![0x24, 0, 0, 0, 0, 7, 30, 10, 1, 0, 10, 9, 9, 9, 1, 0, 0, 8, 239, 0, 0, 0, 3, 1, 0, 0];
+        bootstrap.extend([1, 0, 10, 99, 0, 1, 0, 150, 0, 0, 1, 0, 0, 16, 225, 1, 0, 0, 0, 0, 0, 0]);
+        let ranges = "239.0.0.0/8 (1 of 3), 225.1.0.0/16 (0 of 0)";
+        assert_eq!(said(PIM, &bootstrap), format!("PIM Bootstrap of 10.9.9.9, priority 10, with RPs of {ranges}"));
     }
 
     #[test]
@@ -247,6 +265,7 @@ mod tests {
     #[test]
     fn what_is_cut_short_is_malformed() {
         assert_eq!(said(PIM, &[0x23, 0, 0, 0, 1, 0, 10, 0, 0, 1, 0, 1, 0, 210]), "protocol 103, malformed");
+        assert_eq!(said(PIM, &[0x24, 0, 0, 0, 0, 7, 30, 10, 1, 0, 10, 9, 9]), "protocol 103, malformed");
         assert_eq!(said(IGMP, &[0x22, 0, 0, 0, 0, 0, 0, 1]), "protocol 2, malformed");
         assert_eq!(said(IGMP, &[0x16, 0, 0, 0, 239, 1, 1]), "protocol 2, malformed");
         assert_eq!(said(IGMP, &[0x11, 100, 0, 0, 0, 0, 0, 0, 2]), "protocol 2, malformed");

@@ -84,6 +84,14 @@ class Words(unittest.TestCase):
             "10.1.0.1 > 224.0.0.1: IGMP query of all groups: answer within 10 s, robustness 2, interval 125 s",
         "45c00036000000000167b7910a001703e000000d2300b8b301000a001702000100d201000020ef01010100000001010005200a0100":
             "53 bytes, malformed: Short",
+        "45c00044000000000167ce850a000001e000000d2480c03901021e0a01000a09090901000108ef0000010301000001000a630001009605"
+        "0001000020e101010100000000":
+            "10.0.0.1 > 224.0.0.13: PIM Bootstrap of 10.9.9.9, priority 10, not sent on: 239.0.0.0/8 {10.99.0.1} of 3, "
+            "a zone; 225.1.1.1/32 {}",
+        "45c00022000000000167cea70a000001e000000d2400a9dc00071e0a01000a090909":
+            "10.0.0.1 > 224.0.0.13: PIM Bootstrap of 10.9.9.9, priority 10: no range",
+        "45c00020000000000167cea90a000001e000000d2400b2e500071e0a01000a09":
+            "10.0.0.1 > 224.0.0.13: PIM Bootstrap, malformed: Short",
     }
 
     def test_known_packets(self):

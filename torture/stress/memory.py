@@ -12,7 +12,13 @@ by viq_save and viq_restore at the end of the run: then nothing has changed, and
 router can do without the memory, such as room that it keeps for later packets, the whole run is as the full one. An
 event that is ignored, or refused for its bytes, its timestamp or its interface, never loses the router. In the end no
 block is left. Without files the stored scenarios are played, the small ones first, for at most N seconds (300). A line
-for each router and a sum are printed. The exit status is 1 where anything else came.
+for each router and a sum are printed.
+
+Then come the calls of a listener for Bootstraps, in random runs and in the trials of `torture/run bootstraps`, as many
+as begin in N seconds more: each call is made once for each of its allocations, which is refused, and then with none
+refused. It answers VIQ_MEMORY, and nothing has changed, or VIQ_LOST, and the listener is as it was; what comes then has
+to be what the reading of RFC 5059 says. A message that doesn't count takes no memory. The exit status is 1 where
+anything else came.
 """
 import argparse
 import re
@@ -24,6 +30,8 @@ from pathlib import Path
 from typing import Any
 
 from pimtext.build.library import add_choice, chosen
+from stress import listeners
+from stress.plane import refusing
 from stress.stored import STORED, Stored, routers
 from viqeshor.lab import fed, story
 from viqeshor.lab.addresses import address_in, prefix_in
@@ -102,7 +110,8 @@ def add_words(parser: argparse.ArgumentParser) -> None:
 
 
 def is_right(asked: argparse.Namespace) -> bool:
-    player = chosen(asked)[0].program(PLAYER, *WRAPS)
+    library = chosen(asked)[0]
+    player = library.program(PLAYER, *WRAPS)
     end, scenarios, sums = time.monotonic() + asked.seconds, 0, Counter()
     for path in asked.files or stored():
         if time.monotonic() > end:
@@ -114,4 +123,4 @@ def is_right(asked: argparse.Namespace) -> bool:
     print(f"{sums['lost']} routers lost, {sums['unchanged']} calls that changed nothing and {sums['without']} done "
           f"without, in runs of {sums['routers']} routers of {scenarios} scenarios, {sums['other']} with another "
           "outcome")
-    return not sums["other"]
+    return listeners.is_right(refusing(library), asked.seconds) and not sums["other"]

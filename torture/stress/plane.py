@@ -22,7 +22,7 @@ from pathlib import Path
 from typing import TYPE_CHECKING, Any
 
 import viqeshor
-from pimtext.build.library import CC, ROOM, add_choice, beside, chosen, ran
+from pimtext.build.library import CC, add_choice, beside, chosen, ran
 from stress.dataplane import DUTIES, CaughtUp, Plane, outcome
 from stress.happenings import Event, Happenings, events_of
 from stress.stored import made, routers
@@ -31,6 +31,7 @@ if TYPE_CHECKING:
     from pimtext.build.library import Library
 
 REFUSING = Path(__file__).resolve().parent.parent / "refuse" / "plane.c"
+WRAPS = [f"-Wl,--wrap={name}" for name in ("malloc", "realloc", "free")]
 
 
 @dataclass(frozen=True)
@@ -49,10 +50,17 @@ class Divergence:
 
 def refusing(library: "Library") -> Path:
     """A shared library to which memory can be refused."""
-    built, wraps = ROOM / "libviqeshor_refusing.so", ["-Wl,--wrap=malloc", "-Wl,--wrap=realloc"]
+    built = library.room / "libviqeshor_refusing.so"
     whole = ["-Wl,--whole-archive", library.archive, "-Wl,--no-whole-archive"]
-    ran([CC, "-shared", "-fPIC", "-O2", "-o", beside(built), REFUSING, *wraps, *whole])
+    ran([CC, "-shared", "-fPIC", "-O2", "-o", beside(built), REFUSING, *WRAPS, *whole])
     return beside(built).replace(built)
+
+
+def counting(library: Path) -> ctypes.CDLL:
+    """What such a library tells of its memory."""
+    counts = ctypes.CDLL(str(library))
+    counts.allocations.restype, counts.kept_blocks.restype = ctypes.c_ulong, ctypes.c_long
+    return counts
 
 
 def tables(router: viqeshor.Router) -> list[str]:

@@ -3,7 +3,9 @@ use super::{Daemon, Event, Fatal};
 use crate::core::ranges_of;
 use crate::left::LeftRange;
 use crate::packet::{bsr_of, Packet};
+use crate::policy::Cause;
 use crate::settings::RpSettings;
+use crate::words;
 use log::{debug, info};
 use std::net::Ipv4Addr;
 use viqeshor::{Error, Heard, LearnedRp};
@@ -31,6 +33,7 @@ impl Daemon {
             (Some(limit), false) => self.core.listen(limit, &ranges_of(&self.settings.rps), now + REFRESH),
             (None, true) => {
                 self.core.listen_no_more();
+                self.see_elected();
                 self.due.unheard = None;
                 self.set_ranges()
             }
@@ -63,10 +66,12 @@ impl Daemon {
         if !self.core.listens() || !self.believes(number, bytes) {
             return Ok(());
         }
+        let left_out = |it: &mut Daemon, number: u32| *it.counters.bootstraps_left_out.entry(number).or_default() += 1;
         match self.core.hear(number, bytes) {
             Ok(Heard::Taken { moved }) => {
                 self.counters.bootstraps_taken += 1;
                 self.leave();
+                self.see_elected();
                 match self.due.unheard {
                     // Other fragments may say the rest of what the router before this one had learned.
                     Some(due) => self.due.unheard = Some(due.min(self.now() + FRAGMENTS)),
@@ -76,11 +81,11 @@ impl Daemon {
             }
             Ok(Heard::Other) => {}
             Ok(Heard::Ignored(reason)) => {
-                self.counters.bootstraps_left_out += 1;
+                left_out(self, reason as u32);
                 debug!("the Bootstrap doesn't count: {}", viqeshor::answer_text(reason as u32));
             }
             Err(Error::Refused(refusal)) => {
-                self.counters.bootstraps_left_out += 1;
+                left_out(self, refusal as u32);
                 debug!("the Bootstrap is refused: {}", Error::Refused(refusal));
             }
             // It is as if the message hadn't come.
@@ -91,12 +96,42 @@ impl Daemon {
     }
 
     /// Whether a Bootstrap on the interface, of its BSR, is believed by the settings.
-    fn believes(&self, number: u32, bytes: &[u8]) -> bool {
+    fn believes(&mut self, number: u32, bytes: &[u8]) -> bool {
+        let bsr = Packet::read(bytes).and_then(bsr_of);
+        let (cause, place) = (self.disbelieved(number, bsr), self.name(number).to_string());
+        match (cause, bsr) {
+            // On a border they are as they should be.
+            (Some(Cause::BsrBorder), Some(_)) => self.policy.refusals.count(Cause::BsrBorder, &place),
+            (Some(cause), Some(_)) => {
+                self.policy.refusals.note(self.now(), cause, &place, &words::of(bytes));
+            }
+            _ => {}
+        }
+        cause.is_none()
+    }
+
+    /// By which setting it isn't.
+    fn disbelieved(&self, number: u32, bsr: Option<Ipv4Addr>) -> Option<Cause> {
         let is_border = self.ports.get(number as usize).map_or(true, |port| port.settings.is_bsr_border);
         let from = self.settings.bsr.as_ref().and_then(|bsr| bsr.from.as_ref());
-        let bsr = Packet::read(bytes).and_then(bsr_of);
         let is_named = |from: &Vec<Ipv4Addr>| bsr.map_or(false, |bsr| from.contains(&bsr));
-        !is_border && from.map_or(true, is_named)
+        match is_border {
+            true => Some(Cause::BsrBorder),
+            false => (!from.map_or(true, is_named)).then_some(Cause::OtherBsr),
+        }
+    }
+
+    /// Notes since when which BSR is elected.
+    fn see_elected(&mut self) {
+        let (before, bsr) = (self.bsr_since.map(|(bsr, _)| bsr), self.core.elected().map(|it| it.bsr));
+        if before == bsr {
+            return;
+        }
+        self.bsr_since = bsr.map(|bsr| (bsr, self.now()));
+        match bsr {
+            Some(bsr) => info!("the BSR is {bsr}"),
+            None => info!("no BSR is heard any more"),
+        }
     }
 
     /// The RPs moved: the library's router is given them, by the number of the event before.
@@ -131,7 +166,9 @@ impl Daemon {
             true => self.take(Event::Advance(moment))?,
             false => self.take_also(Event::Advance(moment))?,
         };
-        if self.core.pass(moment)? {
+        let moved = self.core.pass(moment)?;
+        self.see_elected();
+        if moved {
             self.give_anew()?;
         }
         Ok(())

@@ -69,7 +69,16 @@ pub struct Interface {
     pub last_member_query: Option<Said<u32>>,
     /// Its queries are those of IGMPv2.
     pub version_2: Option<Place>,
+    /// Bootstraps are neither heard nor sent on here.
+    pub no_bsm: Option<Place>,
     pub joins: Vec<Said<Join>>,
+}
+
+impl Interface {
+    /// Bootstraps are heard here: by FRR's default they are.
+    pub fn hears_bootstraps(&self) -> bool {
+        self.has_pim && self.passive.is_none() && self.no_bsm.is_none()
+    }
 }
 
 /// Groups and the address of their RP.

@@ -225,6 +225,7 @@ fn taken(it: &mut Interface, place: &Place, words: &[&str]) -> bool {
             it.addresses.extend(read.map(|value| Said { place: place.clone(), value }));
             return read.is_some();
         }
+        ["no", "ip", "pim", "bsm"] => it.no_bsm = Some(place.clone()),
         ["ip", "pim", rest @ ..] => return pim(it, place, rest),
         ["ip", "igmp", rest @ ..] => return igmp(it, place, rest),
         ["ip", "multicast", "boundary", "oil", name] => {
@@ -251,6 +252,7 @@ fn pim(it: &mut Interface, place: &Place, words: &[&str]) -> bool {
         ["allowed-neighbors", "prefix-list", name] => {
             it.neighbours = Some(Said { place: place.clone(), value: name.to_string() })
         }
+        ["bsm"] => it.no_bsm = None,
         ["bfd"] => it.bfd = Some(Said { place: place.clone(), value: None }),
         ["bfd", multiplier, receive, send] => {
             let value = bfd(multiplier, receive, send);

@@ -13,12 +13,11 @@ const MULTICAST: [&str; 9] = [
     "ipv6 multicast",
 ];
 /// Lines that say what is so here anyway: of FRR's usual times, of the version, of what isn't done.
-const SAME: [&str; 12] = [
+const SAME: [&str; 11] = [
     "ip pim join-prune-interval 60",
     "ip pim keep-alive-timer 210",
     "ip pim register-suppress-time 60",
     "ip pim send-v6-secondary",
-    "no ip pim bsm",
     "no ip pim unicast-bsm",
     "no ip pim send-v6-secondary",
     "ip igmp version 3",
@@ -45,7 +44,7 @@ const QUIET: [&str; 14] = [
     "Current configuration",
 ];
 /// Why a line that begins so isn't read.
-const REASONS: [(&str, &str); 36] = [
+const REASONS: [(&str, &str); 35] = [
     ("no ", "a line that begins with `no` isn't read"),
     ("ipv6 ", "the router is for IPv4 only"),
     ("ip pim bfd", "its times are in a profile of bfdd"),
@@ -55,7 +54,6 @@ const REASONS: [(&str, &str); 36] = [
     ("ip pim rp keep-alive-timer", "the RP's keepalive period is that of RFC 7761"),
     ("ip pim register-suppress-time", "the register suppression time is 60 s"),
     ("ip pim packets", "the router reads packets from all sockets in turn"),
-    ("ip pim bsm", "Bootstraps are heard where [bsr] has listen = true, on each interface without bsr_border"),
     ("ip pim unicast-bsm", "Bootstraps to an address of a router aren't heard"),
     ("ip pim bsr", "the router is no candidate BSR"),
     ("ip pim use-source", "Hellos leave from the interface's address"),

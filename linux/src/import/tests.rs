@@ -227,8 +227,8 @@ fn a_configuration_of_frr_10_is_taken_by_its_vrf() {
 
 #[test]
 fn a_line_that_is_left_has_its_number_and_a_reason() {
-    let left =
-        of("interface eth0\n ip pim\n ip pim hello 60 200\nno ip pim bsm\nno ip pim passive\nno ip igmp\n", None).left;
+    let text = "interface eth0\n ip pim\n ip pim hello 60 200\nno ip pim passive\nno ip pim unicast-bsm\nno ip igmp\n";
+    let left = of(text, None).left;
     let said: Vec<_> = left.iter().map(Left::to_string).collect();
     assert_eq!(
         said,
@@ -237,6 +237,23 @@ fn a_line_that_is_left_has_its_number_and_a_reason() {
             "line 6: \"no ip igmp\": a line that begins with `no` isn't read",
         ]
     );
+}
+
+#[test]
+fn bootstraps_are_heard_as_by_frr() {
+    let pim = |name: &str, more: &str| format!("interface {name}\n ip pim\n{more}");
+    let heard = |text: &str| taken(text, None).0.bsr.is_some();
+    let no_bsm = " no ip pim bsm\n";
+    assert!(heard(&pim("eth0", "")) && heard(FRR_8));
+    assert!(!heard(&pim("eth0", no_bsm)) && !heard(&pim("eth0", " ip pim passive\n")));
+    assert!(!heard("interface eth0\n ip igmp\n"));
+    let text = pim("eth0", no_bsm) + &pim("eth1", " ip pim bsm\n ip pim unicast-bsm\n") + &pim("eth2", no_bsm);
+    let (it, left) = taken(&(text + "interface eth2\n ip pim bsm\n"), None);
+    let borders: Vec<_> = it.interfaces.iter().map(|port| port.is_bsr_border).collect();
+    assert_eq!((borders, it.bsr.is_some()), (vec![true, false, false], true));
+    assert_eq!(left, ["ip pim unicast-bsm"]);
+    let line = json!({"line": 3, "text": "no ip pim bsm"});
+    assert_eq!(told(&pim("eth0", no_bsm), None)["interfaces"][0]["no_bsm"], line);
 }
 
 #[test]

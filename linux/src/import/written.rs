@@ -42,6 +42,9 @@ pub fn written(mut found: Configuration) -> (String, Vec<Left>) {
     }
     igmp(&mut found, &taken, &mut text);
     register(&mut found, &mut text);
+    if taken.iter().any(Interface::hears_bootstraps) {
+        text.push_str("\n# As FRR does on each interface without `no ip pim bsm`.\n[bsr]\nlisten = true\n");
+    }
     text.push_str("\n[routes.preferences]\n");
     DISTANCES.iter().for_each(|(name, distance)| text.push_str(&format!("{name} = {distance}\n")));
     taken.iter().for_each(|it| interface(&mut found, it, &mut text));
@@ -116,6 +119,9 @@ fn interface(found: &mut Configuration, it: &Interface, text: &mut String) {
     // Where FRR speaks no PIM only hosts are.
     if it.passive.is_some() || !it.has_pim {
         text.push_str("passive = true\n");
+    }
+    if it.no_bsm.is_some() {
+        text.push_str("bsr_border = true\n");
     }
     if let Some(priority) = it.priority {
         let _ = writeln!(text, "priority = {priority}");

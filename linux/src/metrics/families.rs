@@ -127,6 +127,11 @@ pub const BOOTSTRAPS_LEFT_OUT_TOTAL: Family = Family {
     kind: Kind::Counter,
     help: "The number of Bootstraps that didn't count.",
 };
+pub const BOOTSTRAPS_LEFT_OUT_BY_REASON_TOTAL: Family = Family {
+    name: "bootstraps_left_out_by_reason_total",
+    kind: Kind::Counter,
+    help: "Bootstraps that didn't count, by reason.",
+};
 pub const BOOTSTRAP_MOVES_TOTAL: Family = Family {
     name: "bootstrap_moves_total",
     kind: Kind::Counter,
@@ -134,6 +139,11 @@ pub const BOOTSTRAP_MOVES_TOTAL: Family = Family {
 };
 pub const BOOTSTRAP_RPS: Family =
     Family { name: "bootstrap_rps", kind: Kind::Gauge, help: "The number of RPs learned of Bootstraps." };
+pub const BOOTSTRAP_RANGES: Family = Family {
+    name: "bootstrap_ranges",
+    kind: Kind::Gauge,
+    help: "The number of ranges of which the router has a learned RP.",
+};
 pub const POLICY_REFUSED_TOTAL: Family = Family {
     name: "policy_refused_total",
     kind: Kind::Counter,

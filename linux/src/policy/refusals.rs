@@ -25,6 +25,8 @@ pub enum Cause {
     OlderHost,
     SourceSpecific,
     Guard,
+    BsrBorder,
+    OtherBsr,
 }
 
 impl Cause {
@@ -49,6 +51,8 @@ impl Cause {
             Cause::OlderHost => "older_hosts",
             Cause::SourceSpecific => "ssm",
             Cause::Guard => "guard",
+            Cause::BsrBorder => "bsr_border",
+            Cause::OtherBsr => "from",
         }
     }
 }
@@ -74,6 +78,8 @@ impl fmt::Display for Cause {
             Cause::OlderHost => "a message of IGMPv1 or IGMPv2 that `older_hosts` doesn't hear",
             Cause::SourceSpecific => "a message of IGMPv1 or IGMPv2 for an SSM group",
             Cause::Guard => "IGMP or PIM that `guard` doesn't let be forwarded as data",
+            Cause::BsrBorder => "a Bootstrap on a `bsr_border`",
+            Cause::OtherBsr => "a Bootstrap of a BSR that isn't among `from`",
         })
     }
 }

@@ -1,6 +1,7 @@
 //! RPs that are learned of Bootstraps (RFC 5059): which are believed, what the library's router has of them, and until when.
 use super::restarted::{left_by, resumed, same_machine};
 use super::*;
+use crate::policy::Cause;
 use crate::schemas::Schema;
 use crate::show;
 use serde_json::{json, Value};
@@ -21,6 +22,11 @@ fn bordered() -> String {
 
 /// A Bootstrap of the neighbour, which says one RP of each range for 150 s.
 pub fn bootstrap(ranges: &[([u8; 4], u8, [u8; 4])]) -> (Source, kernel::Event) {
+    from([10, 1, 0, 2], ranges)
+}
+
+/// One of a router on the link.
+fn from(sender: [u8; 4], ranges: &[([u8; 4], u8, [u8; 4])]) -> (Source, kernel::Event) {
     let mut content = vec![0x24, 0, 0, 0, 0, 7, 30, 10, 1, 0];
     content.extend(BSR);
     for (prefix, length, rp) in ranges {
@@ -30,7 +36,7 @@ pub fn bootstrap(ranges: &[([u8; 4], u8, [u8; 4])]) -> (Source, kernel::Event) {
         content.extend(rp);
         content.extend([0, 150, 0, 0]);
     }
-    frame(ETH0, packet(PIM, [10, 1, 0, 2].into(), [224, 0, 0, 13].into(), &summed(&content)))
+    frame(ETH0, packet(PIM, sender.into(), [224, 0, 0, 13].into(), &summed(&content)))
 }
 
 fn wide(rp: [u8; 4]) -> (Source, kernel::Event) {
@@ -94,10 +100,12 @@ fn nothing_is_learned_where_the_settings_say_so() {
     sent_on(&fake);
     happens(&mut daemon, &fake, wide(LEARNED));
     assert_eq!((rp(&daemon, GROUP), sent_on(&fake)), (None, vec![]));
+    assert_eq!(daemon.policy.refusals.of(Cause::BsrBorder), 1);
     for (from, learned) in [("10.9.0.8", None), ("10.9.0.9", Some(LEARNED.into()))] {
         let (mut daemon, fake) = begun(&format!("{}from = [\"{from}\"]\n", listening()), &both());
         happens(&mut daemon, &fake, wide(LEARNED));
         assert_eq!(rp(&daemon, GROUP), learned);
+        assert_eq!(daemon.policy.refusals.of(Cause::OtherBsr), u64::from(learned.is_none()));
     }
 }
 
@@ -162,11 +170,48 @@ fn what_is_learned_is_shown() {
     );
     assert_eq!((&rows[1]["groups"], &rows[1]["address"]), (&json!("239.0.0.0/8"), &json!("10.9.0.7")));
     assert_eq!((&rows[1]["in_use"], &rows[1]["expires_seconds"]), (&json!(true), &json!(150.0)));
+    assert_eq!((&rows[0]["up_seconds"], &rows[1]["up_seconds"]), (&json!(0.0), &Value::Null));
     let rows = shown(&mut daemon, "rp");
     assert_eq!((&rows[0]["from"], &rows[0]["expires_seconds"]), (&json!("file"), &Value::Null));
+    assert_eq!(rows[0]["priority"], Value::Null);
     let learned = rows.as_array().and_then(|rows| rows.last()).expect("a row");
     assert_eq!(
-        (&learned["rp"], &learned["from"], &learned["next_hop"]),
-        (&json!("10.9.0.7"), &json!("bsr"), &json!("10.1.0.2"))
+        (&learned["rp"], &learned["from"], &learned["priority"], &learned["next_hop"]),
+        (&json!("10.9.0.7"), &json!("bsr"), &json!(0), &json!("10.1.0.2"))
     );
+}
+
+#[test]
+fn since_when_the_bsr_is_elected_is_shown() {
+    let (mut daemon, fake) = begun(&listening(), &both());
+    happens(&mut daemon, &fake, wide(LEARNED));
+    passes(&mut daemon, &fake, 60_000);
+    happens(&mut daemon, &fake, wide(LEARNED));
+    passes(&mut daemon, &fake, 60_000);
+    assert_eq!(shown(&mut daemon, "bsr")[0]["up_seconds"], json!(120.0));
+    passes(&mut daemon, &fake, 71_000);
+    assert_eq!((shown(&mut daemon, "bsr")[0]["what"].as_str(), daemon.bsr_since), (Some("RP"), None));
+}
+
+#[test]
+fn what_does_not_count_is_counted_by_its_reason() {
+    let (mut daemon, fake) = begun(&listening(), &both());
+    happens(&mut daemon, &fake, wide(LEARNED));
+    for _ in 0..2 {
+        happens(&mut daemon, &fake, from([10, 1, 0, 77], &[([239, 0, 0, 0], 8, OTHER)]));
+    }
+    let rows = shown(&mut daemon, "counters");
+    let count = |name: &str| {
+        let row = rows.as_array().and_then(|rows| rows.iter().find(|row| row["counter"] == json!(name)));
+        row.map(|row| row["count"].clone())
+    };
+    assert_eq!(count("Bootstraps that didn't count"), Some(json!(2)));
+    assert_eq!(count("Bootstraps that didn't count: the sender is no neighbour"), Some(json!(2)));
+    assert_eq!(count("ranges of which the router has a learned RP"), Some(json!(1)));
+    let metrics = crate::metrics::text(&mut daemon).expect("they are told");
+    let by_reason = r#"viqeshor_bootstraps_left_out_by_reason_total{reason="the sender is no neighbour"} 2"#;
+    let bootstraps = r#"viqeshor_pim_messages_total{interface="eth0",type="bootstrap",direction="received"} 3"#;
+    for wanted in [by_reason, bootstraps] {
+        assert!(metrics.lines().any(|line| line == wanted), "{wanted}");
+    }
 }

@@ -8,8 +8,8 @@ from __future__ import annotations
 
 import functools
 from collections.abc import Sequence
-from dataclasses import dataclass
-from ipaddress import IPv4Address
+from dataclasses import dataclass, field
+from ipaddress import IPv4Address, IPv4Network
 from typing import Any
 
 SHORT, VERSION, CHECKSUM, LENGTH, ADDRESS, GROUP, OLD, UNKNOWN, FRAGMENT = range(1, 10)
@@ -21,7 +21,7 @@ ROUTER_ALERT = b"\x94\x04\0\0"
 # The longest packet that comes on a link, and the longest one that comes as a unicast: a Register with such a one in
 # it.
 MOST_IN_A_FRAME, MOST_IN_A_UNICAST = 1500, 1528
-HELLO, REGISTER, REGISTER_STOP, JOIN_PRUNE, ASSERT = 0, 1, 2, 3, 5
+HELLO, REGISTER, REGISTER_STOP, JOIN_PRUNE, BOOTSTRAP, ASSERT = range(6)
 RECORD_KINDS = {1: "IS_IN", 2: "IS_EX", 3: "TO_IN", 4: "TO_EX", 5: "ALLOW", 6: "BLOCK"}
 INFINITE = (0x7FFFFFFF, 0xFFFFFFFF)
 
@@ -134,7 +134,41 @@ class Assert:
 
 @dataclass(frozen=True)
 class OtherPim:
+    """A message that a router alone doesn't read, with its bytes."""
     kind: int
+    message: bytes = field(default=b"", repr=False)
+
+
+@dataclass(frozen=True)
+class CandidateRp:
+    address: str
+    holdtime: int = 150
+    priority: int = 0
+
+
+@dataclass(frozen=True)
+class RpRange:
+    """A range of groups with its RPs in this fragment, and how many it has in all."""
+    group: str
+    length: int
+    rps: tuple[CandidateRp, ...] = ()
+    count: int = 0
+    is_bidir: bool = False
+    is_zone: bool = False
+
+    def prefix(self) -> IPv4Network:
+        return IPv4Network((self.group, self.length), strict=False)
+
+
+@dataclass(frozen=True)
+class Bootstrap:
+    """RFC 5059, section 4.1."""
+    bsr: str
+    ranges: tuple[RpRange, ...] = ()
+    tag: int = 7
+    hash_length: int = 30
+    priority: int = 10
+    no_forward: bool = False
 
 
 @dataclass(frozen=True)
@@ -289,7 +323,39 @@ def read_pim(data: bytes) -> Hello | Register | RegisterStop | JoinPrune | Asser
     kind = data[0] & 15
     expect(kind != REGISTER or len(data) >= 8, SHORT)
     expect(sum16(data) == 0 or (kind == REGISTER and sum16(data[:8]) == 0), CHECKSUM)
-    return PIM_READERS[kind](Fields(data, 4)) if kind in PIM_READERS else OtherPim(kind)
+    return PIM_READERS[kind](Fields(data, 4)) if kind in PIM_READERS else OtherPim(kind, data)
+
+
+def read_host(fields: Fields) -> str:
+    """An encoded address of a host."""
+    address = fields.unicast()
+    expect(is_host(address), ADDRESS)
+    return dotted(address)
+
+
+def read_candidate(fields: Fields) -> CandidateRp:
+    address, holdtime = read_host(fields), fields.number()
+    return CandidateRp(address, holdtime, fields.take(2)[0])
+
+
+def read_rp_range(fields: Fields) -> RpRange:
+    flags = fields.data[fields.place + 2:fields.place + 3]
+    group, length = fields.group()
+    expect(4 <= length <= 32, LENGTH)
+    count, here, *_ = fields.take(4)
+    rps = tuple(read_candidate(fields) for _ in range(here))
+    return RpRange(group, length, rps, count, bool(flags[0] & 0x80), bool(flags[0] & 1))
+
+
+def read_bootstrap(message: bytes) -> Bootstrap:
+    """A whole PIM message of this type, its header read, as a router reads it that listens for them."""
+    fields = Fields(message, 4)
+    tag, hash_length, priority = fields.number(), *fields.take(2)
+    expect(hash_length <= 32, LENGTH)
+    bsr, ranges = read_host(fields), []
+    while fields.is_left():
+        ranges.append(read_rp_range(fields))
+    return Bootstrap(bsr, tuple(ranges), tag, hash_length, priority, bool(message[1] & 0x80))
 
 
 def code_value(code: int) -> int:
@@ -505,3 +571,16 @@ def write_assert(source: str, told: Assert) -> bytes:
     preference = told.rpt << 31 | told.preference
     content = encoded_group(told.group, told.mask) + encoded_unicast(told.source)
     return write_to_routers(ASSERT, source, content + preference.to_bytes(4, "big") + told.metric.to_bytes(4, "big"))
+
+
+def encoded_rp_range(told: RpRange) -> bytes:
+    head = bytes([1, 0, 0x80 * told.is_bidir | told.is_zone, told.length]) + octets(told.group)
+    rps = (encoded_unicast(rp.address) + rp.holdtime.to_bytes(2, "big") + bytes([rp.priority, 0]) for rp in told.rps)
+    return head + bytes([told.count, len(told.rps), 0, 0]) + b"".join(rps)
+
+
+def bootstrap_message(told: Bootstrap) -> bytes:
+    """The message alone, with its checksum."""
+    head = told.tag.to_bytes(2, "big") + bytes([told.hash_length, told.priority]) + encoded_unicast(told.bsr)
+    body = bytes([0x20 | BOOTSTRAP, 0x80 * told.no_forward, 0, 0]) + head + b"".join(map(encoded_rp_range, told.ranges))
+    return with_number(body, 2, sum16(body))

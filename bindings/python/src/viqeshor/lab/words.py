@@ -100,6 +100,26 @@ def report(body: packets.Report) -> str:
     return "report: " + ("; ".join(map(record, body.records)) or "no record")
 
 
+def rp_range(told: packets.RpRange) -> str:
+    """A range of a Bootstrap with its RPs; of a fragment, of how many RPs these are."""
+    of = "" if told.count == len(told.rps) else f" of {told.count}"
+    flags = ", BIDIR" * told.is_bidir + ", a zone" * told.is_zone
+    return f"{told.prefix()} {listed([rp.address for rp in told.rps])}{of}{flags}"
+
+
+def other_pim(body: packets.OtherPim) -> str:
+    """A message that a router alone doesn't read; a Bootstrap, if it can be read, with what it says."""
+    kind = PIM_KINDS.get(body.kind, f"type {body.kind}")
+    if body.kind != packets.BOOTSTRAP:
+        return kind
+    try:
+        told = packets.read_bootstrap(body.message)
+    except Refused as refused:
+        return f"{kind}, malformed: {REFUSALS[refused.args[0]]}"
+    ranges = "; ".join(map(rp_range, told.ranges)) or "no range"
+    return f"{kind} of {told.bsr}, priority {told.priority}{', not sent on' * told.no_forward}: {ranges}"
+
+
 def data(packet: packets.Packet) -> str:
     """A data packet, without its addresses."""
     body, protocol = packet.body, PROTOCOLS.get(packet.protocol, f"protocol {packet.protocol}")
@@ -120,7 +140,7 @@ def packet(read: packets.Packet) -> str:
     if isinstance(read.body, packets.Data):
         return head + data(read)
     if isinstance(read.body, packets.OtherPim):
-        return head + f"PIM {PIM_KINDS.get(read.body.kind, f'type {read.body.kind}')}"
+        return head + f"PIM {other_pim(read.body)}"
     return head + f"{PROTOCOLS[read.protocol]} " + WRITERS[type(read.body)](read.body)
 
 
