@@ -40,17 +40,25 @@ class Refusing(Heard):
                 self.sums["unchanged"] += 1
             except viqeshor.Lost:
                 self.sums["lost"] += 1
-                self.router.end()
-                self.router = viqeshor.Router.restore(saved, library=self.library)
+                self.restore(saved)
             else:
-                return self.done(came, number)
+                if self.counting.allocations() < number:
+                    return self.done(came, number)
+                # Those that give ranges do without some, and then bring the same once more.
+                self.sums["without"] += 1
+                self.same("whether the call gives ranges", isinstance(came, Answer), True)
+                self.restore(saved)
+                continue
             finally:
                 self.counting.refuse_allocation(0)
             self.compare_known()
 
+    def restore(self, saved: bytes) -> None:
+        self.router.end()
+        self.router = viqeshor.Router.restore(saved, library=self.library)
+
     def done(self, came: Came, number: int) -> Came:
-        """A call that was done: none of its allocations was refused, or it did without."""
-        self.sums["without"] += self.counting.allocations() >= number
+        """A call of which no allocation was refused."""
         if self.is_sure(getattr(came, "answer", came)):
             self.same("the first allocation of a call that changes nothing", number, 1)
         return came

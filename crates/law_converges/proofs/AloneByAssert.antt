@@ -10,7 +10,7 @@ text_of : Emission → List ℕ
 text_of (Emission.Link i bytes) = bytes
 text_of (Emission.Unicast to bytes) = bytes
 
-same_text : (i j : ℕ) (a b : List ℕ) → on_link i a ≡ on_link j b → a ≡ b
+pub same_text : (i j : ℕ) (a b : List ℕ) → on_link i a ≡ on_link j b → a ≡ b
 unfolding text_of
 same_text i j a b e = ap text_of e
 

@@ -31,7 +31,7 @@ module _ (d late : ℕ) (started : ℕ → ℕ) (t : Traffic) (link : ℕ) (memb
     abbrev c : Adjacent
     c = between link x y
 
-    hellos_in_time : (ms : List Move) (n : Network) (came : Arrivals) → IsCarried d late started t came link members first n ms
+    pub hellos_in_time : (ms : List Move) (n : Network) (came : Arrivals) → IsCarried d late started t came link members first n ms
         → EachMove (HelloKeeps c) n ms → HellosInTime d started c n ms
     hellos_in_time [] n came f keeps = tt
     hellos_in_time (m ∷ ms) n came f keeps = (

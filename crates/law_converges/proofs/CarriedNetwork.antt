@@ -21,7 +21,7 @@ one_lan P [] a f none = absurd none
 one_lan P (b ∷ bs) a f (inl same) = subst P same f.0
 one_lan P (b ∷ bs) a f (inr later) = one_lan P bs a f.1 later
 
-length-mapped : {X Y : Type 0} (f : X → Y) (xs : List X) → length (map f xs) ≡ length xs
+pub length-mapped : {X Y : Type 0} (f : X → Y) (xs : List X) → length (map f xs) ≡ length xs
 length-mapped f [] = refl
 length-mapped f (x ∷ xs) = ap (λ (k : ℕ). suc k) (length-mapped f xs)
 
@@ -62,7 +62,7 @@ module _ (d late lag bound : ℕ) (started : ℕ → ℕ) (t : Traffic) (came : 
       };
     }
 
-    claim_quiet : (c : Claim) → ClaimIsQuiet d bound started n ms a c → ContestIsQuiet d bound started n ms (contest_on a c)
+    pub claim_quiet : (c : Claim) → ClaimIsQuiet d bound started n ms a c → ContestIsQuiet d bound started n ms (contest_on a c)
     claim_quiet c g = record { few = g.few; losers = each_more _ _ one c.losers g.losers }
       where
         one : (y : Member) → LoserIsQuiet d bound started n ms a c y
@@ -85,7 +85,7 @@ module _ (d late lag bound : ℕ) (started : ℕ → ℕ) (t : Traffic) (came : 
 
   -- ---- a way
 
-  hops_quiet : (x : Join) (g : ℕ) (lans : List Lan) → IsJoin x g → AllByRecursion (LanIsQuiet d late bound started t came n ms) lans → (r : ℕ)
+  pub hops_quiet : (x : Join) (g : ℕ) (lans : List Lan) → IsJoin x g → AllByRecursion (LanIsQuiet d late bound started t came n ms) lans → (r : ℕ)
       (hs : List HopOn) → HopsAreQuiet x g t lans n ms r hs
       → AreHops x g d started n ms r (map (λ (h : HopOn). pair_of (number_of h.lan) h.lower h.upper) hs)
   hops_quiet x g lans isg quiet r [] f = tt

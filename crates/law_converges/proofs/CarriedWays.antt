@@ -3,7 +3,7 @@ use Rattle.std.{proofs.Common.{◌≡◌, ◌∙◌, ℕ, ◌==◌, Bool, true, 
 use Rattle.pim_types.{specs.Keys.star_key}
 use Rattle.pim_model.{specs.{Network.{Move, Network, Station, moved, station_at}, Tables.row_at}}
 use Rattle.law_events.{specs.Rest.IsAtRest}
-use Rattle.law_streams.{specs.{InTimeJoins.{AreThere, IsHeld, IsReady, Star}, Passing.{Receiver, Tree}}, proofs.Pairs.{ready_then, same_station}}
+use Rattle.law_streams.{specs.{InTimeJoins.{AreThere, IsHeld, IsJoin, IsReady, Star}, Passing.{Receiver, Tree}}, proofs.Pairs.{ready_then, same_station}}
 use Rattle.law_converges.{specs.{Carried.{Arrivals, Carries, EachMove, Traffic}, CarriedNetwork.{HopIsQuiet, HopOn, HopsAreQuiet, IsQuietPlan, Lan, LanIsQuiet, Plan, WayIsQuiet, WayOver, layout_of, number_of, way_on}, CarriedWays.{AreOnTree, CarriedNetworkBringsNothingElse, CarriedNetworkServesOnce, IsClear, IsOneWay, IsOpen, forwarders, pair_on, root_of}, ComesOnce.{AllCameDown, AreAlonePast, AreForwarding, AreServedOnce, Forwarder, Forwards, HasOneOn, HearsAll, HoldsPastOn, SendsDown, sender_of}, LinkDr.{IsOne, Member}, Past.HoldsPast, PassedOnce.IsOnTree, Settles.{HasSettled, Way, routers}}, proofs.{CarriedNetwork.{carried_network_settles, one_lan}, ComesOnce.each_packet_comes_once, NothingElse.nothing_else_comes, PassedOnce.passes, Past.{both_past, same_past, throughout_past}}}
 
 -- ---- lists
@@ -86,7 +86,7 @@ pub ready_past : (started : ℕ → ℕ) (bound r : ℕ) (ms : List Move) (n : N
 ready_past started bound r [] n f = tt
 ready_past started bound r (m ∷ ms) n f = (λ past. ready_then r n m f, ready_past started bound r ms (moved n m).1 (ready_then r n m f))
 
-module _ (g src rp d late bound : ℕ) (started : ℕ → ℕ) (t : Traffic) (came : Arrivals) (lans : List Lan) (n : Network) (ms : List Move)
+module _ (g src rp d late bound limit : ℕ) (started : ℕ → ℕ) (t : Traffic) (came : Arrivals) (lans : List Lan) (n : Network) (ms : List Move)
     (quiet : AllByRecursion (LanIsQuiet d late bound started t came n ms) lans) where
   abbrev Quiet : HopOn → Type 0
   Quiet h = HopIsQuiet (Star rp) g t lans n ms h
@@ -95,32 +95,32 @@ module _ (g src rp d late bound : ℕ) (started : ℕ → ℕ) (t : Traffic) (ca
   Rest h hs = HopsAreQuiet (Star rp) g t lans n ms (h.upper).router hs
 
   abbrev PastIt : (Network → Type 0) → Type 0
-  PastIt P = HoldsPast started bound P n ms
+  PastIt P = HoldsPast started limit P n ms
 
   abbrev AreHeldOn : List HopOn → Network → Type 0
   AreHeldOn hs x = AllByRecursion (λ c. IsHeld (Star rp) g c x) (map pair_on hs)
 
-  its_lan : (h : HopOn) → Quiet h → LanIsQuiet d late bound started t came n ms h.lan
+  pub its_lan : (h : HopOn) → Quiet h → LanIsQuiet d late bound started t came n ms h.lan
   its_lan h q = one_lan (LanIsQuiet d late bound started t came n ms) lans h.lan quiet q.among
 
   upper_ready : (h : HopOn) → Quiet h → PastIt (IsReady (h.upper).router)
-  upper_ready h q = ready_past started bound (h.upper).router ms n ((its_lan h q).meet.ready h.upper (q.on).upper)
+  upper_ready h q = ready_past started limit (h.upper).router ms n ((its_lan h q).meet.ready h.upper (q.on).upper)
 
   -- who sends on the link of a next hop isn't its lower router
   sender_is : (h : HopOn) (hs : List HopOn) → Rest h hs → sender_of (root_of h hs) (forwarders h hs) ≡ (h.upper).router
   sender_is h [] rest = refl
   sender_is h (k ∷ ks) rest = rest.0
 
-  sender_apart : (h : HopOn) (hs : List HopOn) → Quiet h → Rest h hs → (sender_of (root_of h hs) (forwarders h hs) == (h.lower).router) ≡ false
+  pub sender_apart : (h : HopOn) (hs : List HopOn) → Quiet h → Rest h hs → (sender_of (root_of h hs) (forwarders h hs) == (h.lower).router) ≡ false
   sender_apart h hs q rest =
       subst (λ (r : ℕ). (r == (h.lower).router) ≡ false) (sym (sender_is h hs rest)) (turned (h.lower).router (h.upper).router (q.on).apart)
 
   module _ (P Q R : Network → Type 0) (so : (x : Network) → P x → Q x → R x) where
     both : PastIt P → PastIt Q → PastIt R
-    both p q = both_past started bound P Q R so ms n p q
+    both p q = both_past started limit P Q R so ms n p q
 
   less : (P R : Network → Type 0) → ((x : Network) → P x → R x) → PastIt P → PastIt R
-  less P R so p = same_past started bound P R so ms n p
+  less P R so p = same_past started limit P R so ms n p
 
   forwards_past : (h k : HopOn) → Quiet h → Quiet k → (same : (k.lower).router ≡ (h.upper).router) → PastIt (IsHeld (Star rp) g (pair_on h))
       → PastIt (λ x. IsOnTree g src (k.lower).iface (pair_on h) x × IsClear g src (pair_on h) x)
@@ -148,9 +148,9 @@ module _ (g src rp d late bound : ℕ) (started : ℕ → ℕ) (t : Traffic) (ca
       (λ x a b. (a, b)) (upper_ready h q) held)
       (both (AreThere (Star rp) g (pair_on k)) (λ x. IsOnTree g src (k.lower).iface (pair_on h) x × IsClear g src (pair_on h) x)
       (λ x. AreThere (Star rp) g (pair_on k) x × (IsOnTree g src (k.lower).iface (pair_on h) x × IsClear g src (pair_on h) x)) (λ x a b. (a, b))
-      (throughout_past started bound (AreThere (Star rp) g (pair_on k)) ms n above.there) tree)
+      (throughout_past started limit (AreThere (Star rp) g (pair_on k)) ms n above.there) tree)
 
-  way_past : (h : HopOn) (hs : List HopOn) → Quiet h → Rest h hs → PastIt (AreHeldOn (h ∷ hs)) → PastIt (AreOnTree g src h hs)
+  pub way_past : (h : HopOn) (hs : List HopOn) → Quiet h → Rest h hs → PastIt (AreHeldOn (h ∷ hs)) → PastIt (AreOnTree g src h hs)
       → PastIt (AreForwarding g src (root_of h hs) (number_of h.lan) (forwarders h hs))
   way_past h [] q rest held tree =
       both (λ x. IsReady (h.upper).router x × IsHeld (Star rp) g (pair_on h) x) (IsClear g src (pair_on h))
@@ -178,7 +178,7 @@ module _ (g src rp d late bound : ℕ) (started : ℕ → ℕ) (t : Traffic) (ca
 
   -- ---- what the links carry
 
-  hears : (h : HopOn) → Quiet h → (f : Forwarder) → f.self ≡ h.lower → f.above ≡ number_of h.lan → HearsAll d started t came n ms f
+  pub hears : (h : HopOn) → Quiet h → (f : Forwarder) → f.self ≡ h.lower → f.above ≡ number_of h.lan → HearsAll d started t came n ms f
   hears h q f self above =
       let carried = (its_lan h q).carried in
       record {
@@ -188,9 +188,36 @@ module _ (g src rp d late bound : ℕ) (started : ℕ → ℕ) (t : Traffic) (ca
         behind = carried.behind f.self (subst (IsOne (routers (h.lan).link)) (sym self) (q.on).lower);
       }
 
-  all_hear : (h : HopOn) (hs : List HopOn) → Rest h hs → AllByRecursion (HearsAll d started t came n ms) (forwarders h hs)
+  pub all_hear : (h : HopOn) (hs : List HopOn) → Rest h hs → AllByRecursion (HearsAll d started t came n ms) (forwarders h hs)
   all_hear h [] rest = tt
   all_hear h (k ∷ ks) rest = (hears k rest.1 _ refl refl, all_hear k ks rest.2)
+
+  -- ---- from when the next hops hold the group
+
+  module _ (h : HopOn) (hs : List HopOn) (f : Forwarder) (r : ℕ) (isg : IsJoin (Star rp) g)
+      (hops : HopsAreQuiet (Star rp) g t lans n ms r (h ∷ hs)) (self : f.self ≡ h.lower) (above : f.above ≡ number_of h.lan)
+      (held : HoldsPast started limit (λ x. AllByRecursion (λ c. IsHeld (Star rp) g c x) (map pair_on (h ∷ hs))) n ms)
+      (tree : HoldsPast started limit (AreOnTree g src h hs) n ms) (passes : HoldsPast started limit (Forwards g src f) n ms) where
+    apart : (sender_of (root_of h hs) (forwarders h hs) == (f.self).router) ≡ false
+    apart =
+        subst (λ (y : Member). (sender_of (root_of h hs) (forwarders h hs) == y.router) ≡ false) (sym self) (sender_apart h hs hops.1 hops.2)
+
+    pub all_forward : HoldsPast started limit (AreForwarding g src (root_of h hs) f.below (f ∷ forwarders h hs)) n ms
+    all_forward =
+        both (Forwards g src f) (AreForwarding g src (root_of h hs) (number_of h.lan) (forwarders h hs))
+        (AreForwarding g src (root_of h hs) f.below (f ∷ forwarders h hs))
+        (λ x a b. (refl, a, apart, subst (λ (l : ℕ). AreForwarding g src (root_of h hs) l (forwarders h hs) x) (sym above) b)) passes
+        (way_past h hs hops.1 hops.2 held tree)
+
+    pub served_once : HoldsPastOn started limit (AreServedOnce g src d started t (root_of h hs) f.below (f ∷ forwarders h hs)) n ms
+    served_once =
+        each_packet_comes_once g src d limit started t came (root_of h hs) f.below (f ∷ forwarders h hs) n ms isg.multicast isg.goes_far
+        ((its_lan h hops.1).carried).sent (hears h hops.1 f self above, all_hear h hs hops.2) all_forward
+
+    pub none_besides : EachMove (AreAlonePast g src started limit (root_of h hs) f.below (f ∷ forwarders h hs)) n ms
+        → HoldsPastOn started limit (AllCameDown g src (root_of h hs) f.below (f ∷ forwarders h hs)) n ms
+    none_besides alone =
+        nothing_else_comes g src limit started (root_of h hs) f.below (f ∷ forwarders h hs) n ms isg.goes_far all_forward alone
 
 module _ (g src rp d late lag bound first : ℕ) (started : ℕ → ℕ) (t : Traffic) (came : Arrivals) (plan : Plan) (n : Network) (ms : List Move)
     (h : HopOn) (hs : List HopOn) (f : Forwarder) (q : IsQuietPlan d late lag bound started t came plan n ms)
@@ -207,34 +234,19 @@ module _ (g src rp d late lag bound first : ℕ) (started : ℕ → ℕ) (t : Tr
       (λ x a. one_mapped (λ w. AllByRecursion (λ c. IsHeld w.join w.group c x) w.hops) plan.ways its_way a.ways o.among) ms n
       (carried_network_settles d late lag bound started t came plan n ms q)
 
-  apart : (sender_of (root_of h hs) (forwarders h hs) == (f.self).router) ≡ false
-  apart =
-      subst (λ (y : Member). (sender_of (root_of h hs) (forwarders h hs) == y.router) ≡ false) (sym o.self)
-      (sender_apart g src rp d late bound started t came plan.lans n ms q.lans h hs ((way).hops).1 ((way).hops).2)
+  once : HoldsPastOn started bound (AreServedOnce g src d started t (root_of h hs) f.below (f ∷ forwarders h hs)) n ms
+  once =
+      served_once g src rp d late bound bound started t came plan.lans n ms q.lans h hs f first (way).addresses (way).hops o.self o.above held o.tree
+      o.passes
 
-  pub all_forward : HoldsPast started bound (AreForwarding g src (root_of h hs) f.below (f ∷ forwarders h hs)) n ms
-  all_forward =
-      both_past started bound (Forwards g src f) (AreForwarding g src (root_of h hs) (number_of h.lan) (forwarders h hs))
-      (AreForwarding g src (root_of h hs) f.below (f ∷ forwarders h hs))
-      (λ x a b. (refl, a, apart, subst (λ (l : ℕ). AreForwarding g src (root_of h hs) l (forwarders h hs) x) (sym o.above) b)) ms n o.passes
-      (way_past g src rp d late bound started t came plan.lans n ms q.lans h hs ((way).hops).1 ((way).hops).2 held o.tree)
-
-  served_once : HoldsPastOn started bound (AreServedOnce g src d started t (root_of h hs) f.below (f ∷ forwarders h hs)) n ms
-  served_once =
-      each_packet_comes_once g src d bound started t came (root_of h hs) f.below (f ∷ forwarders h hs) n ms ((way).addresses).multicast
-      ((way).addresses).goes_far ((its_lan g src rp d late bound started t came plan.lans n ms q.lans h ((way).hops).1).carried).sent (
-        hears g src rp d late bound started t came plan.lans n ms q.lans h ((way).hops).1 f o.self o.above,
-        all_hear g src rp d late bound started t came plan.lans n ms q.lans h hs ((way).hops).2,
-      )
-      all_forward
-
-  none_besides : EachMove (AreAlonePast g src started bound (root_of h hs) f.below (f ∷ forwarders h hs)) n ms
+  nothing_else : EachMove (AreAlonePast g src started bound (root_of h hs) f.below (f ∷ forwarders h hs)) n ms
       → HoldsPastOn started bound (AllCameDown g src (root_of h hs) f.below (f ∷ forwarders h hs)) n ms
-  none_besides alone =
-      nothing_else_comes g src bound started (root_of h hs) f.below (f ∷ forwarders h hs) n ms ((way).addresses).goes_far all_forward alone
+  nothing_else alone =
+      none_besides g src rp d late bound bound started t came plan.lans n ms q.lans h hs f first (way).addresses (way).hops o.self o.above held
+      o.tree o.passes alone
 
 pub carried_network_serves_once : CarriedNetworkServesOnce
-carried_network_serves_once = served_once
+carried_network_serves_once = once
 
 pub carried_network_brings_nothing_else : CarriedNetworkBringsNothingElse
-carried_network_brings_nothing_else = none_besides
+carried_network_brings_nothing_else = nothing_else

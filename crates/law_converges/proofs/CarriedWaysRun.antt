@@ -31,7 +31,7 @@ takes_passes = refl
 
 -- ---- what holds
 
-on_tree : HoldsPast started bound (AreOnTree asked_group source_there its_hop []) before moves
+pub on_tree : HoldsPast started bound (AreOnTree asked_group source_there its_hop []) before moves
 on_tree =
     past_run_so started bound 2 (clear_at asked_group source_there (pair_on its_hop)) (IsClear asked_group source_there (pair_on its_hop))
     (clear_so asked_group source_there (pair_on its_hop)) moves before clear_passes

@@ -681,7 +681,7 @@ module _ (g src d : ℕ) (started : ℕ → ℕ) (t : Traffic) (root : Root) (is
 
 -- ---- no router comes in by a move
 
-no_station : (n : Network) (m : Move) (r : ℕ) (st : Station) → station_at n r ≡ None → station_at (moved n m).1 r ≡ Some st → ⊥
+pub no_station : (n : Network) (m : Move) (r : ℕ) (st : Station) → station_at n r ≡ None → station_at (moved n m).1 r ≡ Some st → ⊥
 unfolding moved moved_at
 no_station n m r st none at = go (event_of n m) at
   where

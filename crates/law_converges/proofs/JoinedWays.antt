@@ -253,7 +253,8 @@ module _ (x : Join) (g d lag : ℕ) (started : ℕ → ℕ) (n : Network) (ms : 
       trans : (u v : ℕ) → u ≤ v + lag → v ≤ b → u ≤ z
       trans u v e f = omega (arith, le, e, f)
 
-  rest : (cs : List Pair) (bound r : ℕ) → AreHops x g d started n ms r cs → HoldsPast started bound (Wants x g r) n ms
+  -- where the first router wants from a bound on
+  pub rest : (cs : List Pair) (bound r : ℕ) → AreHops x g d started n ms r cs → HoldsPast started bound (Wants x g r) n ms
       → IsBy started r (bound + lag) n → AreHeldPast x g d lag (bound + a_hop d lag) started n ms cs
   rest [] bound r hops wants early = tt
   rest (c ∷ cs) bound r hops wants early = (

@@ -19,6 +19,7 @@ pub mod AssertRows
 pub mod KeptLosses
 pub mod WinnerClock
 pub mod LinkLosers
+pub mod NoCopy
 pub mod OneSender
 pub mod OneSenderRun
 pub mod LinkLosersRun
@@ -45,6 +46,13 @@ pub mod Settles
 pub mod CarriedNetwork
 pub mod CarriedWays
 pub mod AloneByAssert
+pub mod Inside
+pub mod SilentRouters
+pub mod MemberLinks
+pub mod AloneOnLink
+pub mod RoutesToRp
+pub mod RoutedWays
+pub mod EachMember
 pub mod CarriedNetworkRun
 pub mod Tested
 pub mod HelloTests
@@ -55,7 +63,12 @@ pub mod KeepsTests
 pub mod ClaimTests
 pub mod WishTests
 pub mod WayTests
+pub mod RouteTests
 pub mod CarriedWaysRun
+pub mod RoutesToRpRun
 pub mod ComesOnceRun
 pub mod AloneByAssertRun
+pub mod MemberTests
+pub mod MemberLinksRun
+pub mod EachMemberRun
 pub mod JoinedWaysRun

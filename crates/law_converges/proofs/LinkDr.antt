@@ -1,10 +1,10 @@
 -- Of the routers of a link exactly one is the DR.
 use Rattle.std.{proofs.{Common.{◌≡◌, ◌∙◌, ℕ, ◌+◌, ◌*◌, ◌<◌, ◌≤◌, ◌==◌, nat_le, nat_lt, not, ◌&&◌, ◌||◌, Bool, true, false, cond, List, [], ◌∷◌, ◌⊎◌, inl, inr, filter, map, Option, Some, None, is_some, refl, sym, ap, subst, arith, eqb-true, eq-eqb}, lemmas.Bool.{both_ways, Decides.nat_tests}}, specs.{Cmp.{first_so, second_so}, List.{AllByRecursion, list_any}, Option.option_map_or, Prelude.unwrap_or}}
 use Rattle.pim_types.{specs.{Keys.{is_on, neighbour_key, source_in}, declared.{event.Event.Event, fact.{Key.Key, NeighbourRow.NeighbourRow}, timer.TimerKind.TimerKind}}}
-use Rattle.pim_model.{specs.{declared.accepted.Accepted.Accepted, Cause.done_as, Hellos.hello_holdtime_of, Downstream.holdtime_end_from, Neighbours.{all_have_priority, is_dr, is_neighbour, neighbours_on}, Network.{Move, Network, Station, event_of, moved, station_at}, State.{State, my_address, my_priority}, Step.step, Tables.{Table, has_row, row_at, rows_on, same_option}}}
+use Rattle.pim_model.{specs.{declared.accepted.Accepted.Accepted, Cause.done_as, Hellos.hello_holdtime_of, Downstream.holdtime_end_from, Neighbours.{all_have_priority, is_better_dr, is_dr, is_dr_among, is_neighbour, neighbours_on}, Network.{Move, Network, Station, event_of, moved, station_at}, State.{State, my_address, my_priority}, Step.step, Tables.{Table, has_row, row_at, rows_on, same_option}}}
 use Rattle.law_settled.{specs.Ready.IsSettled, proofs.{FineStates.Runs, ListLaws.{each_both, each_more, each_of_list, list_of_each}, Parts.{end_of, is_sound, part_of}, ShownEnds.{rows_run, shown_is_later}, TableLaws.row_of_each}}
 use Rattle.law_streams.{specs.{Adjacent.{IsKnown, IsKnownAfter, Sends}, Copies.happens, InTimeJoins.{Always, IsBy, IsReady, time_at}, OneDr.{Among, HasDr, IsOf, KnowEachOther, Knows, KnowsOnly, Seat}}, proofs.{Adjacent.neighbours_come_to_be_known, Climbs.swapped, OneDr.{at_least_one_dr, at_most_one_dr}, Pairs.{Steps, one_router, ready_then}}}
-use Rattle.law_converges.{specs.LinkDr.{AllPast, AreOfMembers, ExactlyOneDr, ForgetsBy, HasOneDr, IsDrOf, IsOne, Member, OneDrAfter, Stands, between, is_known, is_of, is_of_member}, proofs.KnownRows.{Each, event_each, is_fresh}}
+use Rattle.law_converges.{specs.LinkDr.{AllPast, AreOfMembers, ExactlyOneDr, ForgetsBy, HasOneDr, IsDrOf, IsOne, Member, OneDrAfter, Stands, between, is_known, is_of, is_of_member, is_preferred}, proofs.KnownRows.{Each, event_each, is_fresh}}
 
 -- ---- lists
 
@@ -51,6 +51,55 @@ only_one a b c e f g = grind arith
 
 or_more : (a b c : Bool) → (a || b) ≡ true → (a || (b || c)) ≡ true
 or_more a b c e = grind arith
+
+-- ---- who is no better DR
+
+first_off : (a b : Bool) → (a || b) ≡ false → a ≡ false
+first_off a b e = grind arith
+
+second_off : (a b : Bool) → (a || b) ≡ false → b ≡ false
+second_off a b e = grind arith
+
+off_not : (b : Bool) → not b ≡ true → b ≡ false
+off_not b e = grind arith
+
+module _ (p : Key × NeighbourRow → Bool) (i : ℕ) where
+  -- what no row on the interface passes, none of the table does that is on it
+  none_on : (t : Table NeighbourRow) → list_any p (rows_on i t) ≡ false
+      → AllByRecursion (λ (e : Key × NeighbourRow). is_on i e.0 ≡ true → p e ≡ false) t
+  unfolding rows_on
+  none_on [] e = tt
+  none_on (x ∷ xs) e = go (is_on i x.0) refl e (none_on xs)
+    where
+      differ : true ≡ false → ⊥
+      differ e = cc e
+
+      go : (b : Bool) → is_on i x.0 ≡ b
+          → list_any p (cond b (x ∷ filter (λ (e : Key × NeighbourRow). is_on i e.0) xs) (filter (λ (e : Key × NeighbourRow). is_on i e.0) xs)) ≡ false
+          → (list_any p (filter (λ (e : Key × NeighbourRow). is_on i e.0) xs) ≡ false
+          → AllByRecursion (λ (e : Key × NeighbourRow). is_on i e.0 ≡ true → p e ≡ false) xs)
+          → AllByRecursion (λ (e : Key × NeighbourRow). is_on i e.0 ≡ true → p e ≡ false) (x ∷ xs)
+      go true on e later = (λ on. first_off (p x) _ e, later (second_off (p x) _ e))
+      go false off e later = (λ on. absurd (differ (sym on ∙ off)), later e)
+
+-- theirs is better than mine
+abbrev better : Bool → (mine at theirs from : ℕ) → Bool
+better by_priority mine at theirs from = cond (by_priority && not (theirs == mine)) (nat_lt mine theirs) (nat_lt at from)
+
+itself : (p a : ℕ) → better true p a p a ≡ false
+itself p a = grind (arith, nat_tests)
+
+module _ (s : State) (i a q : ℕ) (knows : Knows s i a q) (dr : is_dr s i ≡ true) where
+  no_better : better (all_have_priority (neighbours_on s i)) (my_priority s i) (my_address s i) q a ≡ false
+  unfolding is_dr is_dr_among is_better_dr
+  no_better =
+      ap (λ (o : Option ℕ). better (all_have_priority (neighbours_on s i)) (my_priority s i) (my_address s i) (unwrap_or o 0) a)
+      (sym knows.announced)
+      ∙ row_of_each (λ (e : Key × NeighbourRow). is_on i e.0 ≡ true
+      → is_better_dr (all_have_priority (neighbours_on s i)) (my_priority s i) (my_address s i) e ≡ false)
+      (neighbour_key i a) knows.row s.neighbours
+      (none_on (is_better_dr (all_have_priority (neighbours_on s i)) (my_priority s i) (my_address s i)) i s.neighbours (off_not _ dr))
+      knows.found (eq-eqb i i refl)
 
 -- ---- at one router, past the bound
 
@@ -167,7 +216,7 @@ first_of : (P : Network → Type 0) (n : Network) (ms : List Move) → Always P 
 first_of P n [] f = f
 first_of P n (m ∷ ms) f = f.0
 
-sends_to : (link : ℕ) (x y : Member) (n : Network) → Stands link x n → Sends (between link x y) n
+pub sends_to : (link : ℕ) (x y : Member) (n : Network) → Stands link x n → Sends (between link x y) n
 sends_to link x y n f = record {
   station = (f.sends).station;
   there = (f.sends).there;
@@ -313,6 +362,21 @@ module _ (d bound : ℕ) (started : ℕ → ℕ) (link : ℕ) (members : List Me
       alike = all_announce x a ∙ sym (all_announce y b);
     }
 
+    -- none is preferred to the DR
+    none_preferred : (x : Member) → IsOne members x → is_dr (state x) x.iface ≡ true → (y : Member) → IsOne members y
+        → is_preferred y x ≡ false
+    none_preferred x a won y b = go (y.address == x.address) refl
+      where
+        go : (c : Bool) → (y.address == x.address) ≡ c → is_preferred y x ≡ false
+        go true same =
+            subst (λ (z : Member). is_preferred z x ≡ false) (sym (apart y x b a (eqb-true y.address x.address same)))
+            (itself x.priority x.address)
+        go false off =
+            let g : Facts x = facts x a in
+            let h : Facts y = facts y b in
+            (λ z. better (sym (all_announce x a) z) (sym g.priority z) (sym g.own z) (sym h.priority z) (sym h.own z))
+            ∙ no_better (state x) x.iface (my_address (state y) y.iface) (my_priority (state y) y.iface) (knows_it x y a b off) won
+
     has_one : HasDr seats → HasOneDr members n
     has_one dr =
         let r : IsImage seat members dr.seat = mapped_one seat members dr.seat dr.among in
@@ -322,6 +386,7 @@ module _ (d bound : ℕ) (started : ℕ → ℕ) (link : ℕ) (members : List Me
           among = r.among;
           elected = record { station = at r.member; there = (facts r.member r.among).there; elected = won };
           only = λ y b f. one r.member r.among won y b f;
+          first = none_preferred r.member r.among won;
         }
       where
         one : (x : Member) → IsOne members x → is_dr (state x) x.iface ≡ true → (y : Member) → IsOne members y → IsDrOf y n → x ≡ y

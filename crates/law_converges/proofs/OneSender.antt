@@ -1,96 +1,22 @@
 -- Who lost an assert sends no packet that it is about.
-use Rattle.std.{proofs.Common.{◌≡◌, ◌∙◌, ℕ, ◌&&◌, ◌||◌, ◌==◌, not, Bool, true, false, cond, List, [], ◌∷◌, ◌⊎◌, inl, inr, Some, refl, sym, ap, subst, arith, eqb-true}, specs.{Cmp.{Derive.both_true, first_so, second_so}, List.{AllByRecursion, Contains}, Option.option_map_or}}
-use Rattle.pim_ip.{specs.Ipv4.{Packet}}
-use Rattle.pim_types.{specs.{Keys.{source_key, star_key}, declared.{config.{IfaceId.IfaceId, Route.Route, RpRange.RpRange}, event.Event.Event, fact.{AssertMetric.AssertMetric, AssertRow.AssertRow, InterfaceRow.InterfaceRow}, outcome.Emission.Emission}}}
-use Rattle.pim_model.{specs.{declared.accepted.Accepted.Accepted, Cause.{copies_in, done_as}, Forwarding.{Forwarded, forwarded, list_chosen, source_here, source_joined, spt_updated, stray, watched}, Network.{Move, Network, Station, moved, station_at}, Registers.{settle_register, with_keepalive}, Asserts.with_spt_bit, Sets.{assert_source, inherited_olist, inherited_olist_rpt, is_beaten, is_better, is_loser, lost_assert, lost_assert_rpt, lost_assert_star, spt_bit, spt_metric, tunnel}, State.{Addressing, State}, Step.{Answered, change, done, outcome_of, packet_forwarded}, Tables.{Table, row_at}, Unicast.{is_rpf_interface, is_rpf_interface_rp, route, rp_of, rp_route, rpf_interface, rpf_interface_rp}, Writing.on_link}}
-use Rattle.law_settled.{proofs.ListLaws.{by_cond, each_map, each_more}}
-use Rattle.law_streams.{specs.{Adjacent.Adjacent, Copies.{copies_at, happens}, InTimeJoins.{Always, IsBy}, Served.renewed}, proofs.{Leaves.taken_is_done, Links.{each_contained, on_each}, Made.{Made, forwarded_configured, packet_made, step_taken}, Pairs.same_station}}
-use Rattle.law_converges.{specs.{LinkAsserts.lost_to, LinkLosers.{HasLostAfter, HasLostTo, winner_of}, OneSender.{AtMostOneComesToSend, AtMostOneSends, IsOffTree, IsSilent, IsSilentAfter, LoserSendsNone, is_silenced}}, proofs.{LinkJoins.first_of, LinkLosers.{loser_comes_to_stay, loser_stays_loser}}}
-
--- ---- no copy on an interface that isn't on the list
-
-link_number : Emission → ℕ
-link_number (Emission.Link i bytes) = i.number
-link_number (Emission.Unicast to bytes) = 0
-
-not_there : (j : ℕ) (text other : List ℕ) (links : List ℕ) → AllByRecursion (λ x. (x == j) ≡ false) links
-    → Contains (on_each text links) (on_link j other) → ⊥
-unfolding link_number
-not_there j text other links f c =
-    let found : (j == j) ≡ false =
-    each_contained (λ (y : Emission). (link_number y == j) ≡ false) (on_each text links) (on_link j other)
-    (each_map (λ x. (x == j) ≡ false) (λ (y : Emission). (link_number y == j) ≡ false) (λ x. on_link x text) (λ x e. e) links f) c in
-    apart (j == j) found (grind arith)
-  where
-    apart : (b : Bool) → b ≡ false → b ≡ true → ⊥
-    apart b e f = cc (sym e ∙ f)
-
-module _ (s : State) (e : Event) (i : IfaceId) (p : Packet) (j : ℕ) (was : done_as (happens s e) ≡ Some (Accepted.Data i p)) where
-  abbrev f : Forwarded
-  f = forwarded s p.destination p.source i.number
-
-  other : f.list j ≡ false → (x : ℕ) → f.list x ≡ true → (x == j) ≡ false
-  other off x on = go (x == j) refl
-    where
-      contradicts : (b : Bool) → b ≡ true → b ≡ false → ⊥
-      contradicts b e f = cc (sym e ∙ f)
-
-      go : (b : Bool) → (x == j) ≡ b → b ≡ false
-      go false same = refl
-      go true same = absurd (contradicts (f.list j) (ap f.list (sym (eqb-true x j same)) ∙ on) off)
-
-  no_copy : f.list j ≡ false → (text : List ℕ) → Contains (copies_at s e) (on_link j text) → ⊥
-  unfolding change
-  no_copy off text c =
-      let at : IfaceId = record { number = j } in
-      let made : Made s (Some (Accepted.Data at p)) (done s e.draw (packet_forwarded p f)) =
-      packet_made s e.draw (Some (Accepted.Data at p)) p refl f (forwarded_configured s p.destination p.source i.number)
-      (λ links all. each_more (λ x. f.list x ≡ true) (λ x. (x == j) ≡ false) (other off) links all) in
-      not_there j made.text text made.links made.not_back
-      (subst (λ (es : List Emission). Contains es (on_link j text))
-      (ap (λ (a : Answered). copies_in (outcome_of a)) (step_taken s e (Accepted.Data i p) was ∙ taken_is_done s e.draw (Accepted.Data i p) refl) ∙ made.copies) c)
+use Rattle.std.{proofs.Common.{◌≡◌, ◌∙◌, ℕ, ◌&&◌, ◌||◌, ◌==◌, not, Bool, true, false, cond, List, [], ◌∷◌, ◌⊎◌, inl, inr, Some, refl, sym, ap, subst, arith, eqb-true}, specs.{Cmp.{Derive.both_true, first_so, second_so}, Option.option_map_or}}
+use Rattle.pim_ip.{specs.Ipv4.Packet}
+use Rattle.pim_types.{specs.{Keys.{source_key, star_key}, declared.fact.{AssertMetric.AssertMetric, AssertRow.AssertRow}}}
+use Rattle.pim_model.{specs.{declared.accepted.Accepted.Accepted, Forwarding.{Forwarded, forwarded, list_chosen, stray, watched}, Network.{Move, Network, Station, moved, station_at}, Sets.{assert_source, inherited_olist, inherited_olist_rpt, is_beaten, is_better, is_loser, lost_assert, lost_assert_rpt, lost_assert_star, spt_bit, spt_metric, tunnel}, State.State, Step.change, Tables.row_at, Unicast.{is_rpf_interface, is_rpf_interface_rp, route, rp_of, rp_route, rpf_interface, rpf_interface_rp}}}
+use Rattle.law_settled.{proofs.ListLaws.by_cond}
+use Rattle.law_streams.{specs.{Adjacent.Adjacent, InTimeJoins.{Always, IsBy}, Served.renewed}, proofs.{Made.forwarded_configured, Pairs.same_station}}
+use Rattle.law_converges.{specs.{LinkAsserts.lost_to, LinkLosers.{HasLostAfter, HasLostTo, winner_of}, OneSender.{AtMostOneComesToSend, AtMostOneSends, IsOffTree, IsSilent, IsSilentAfter, LoserSendsNone, is_silenced}}, proofs.{LinkJoins.first_of, LinkLosers.{loser_comes_to_stay, loser_stays_loser}, NoCopy.{kept, no_copy, renewed_kept, with_kept}}}
 
 -- ---- what a lost assert reads, which a packet's facts leave
 
-record Ways : Type 0 where
-  configured : Addressing
-  interfaces : Table InterfaceRow
-  routes : List Route
-  ranges : List RpRange
-  asserts : Table AssertRow
-
-abbrev ways : State → Ways
-ways s = record { configured = s.configured; interfaces = s.interfaces; routes = s.routes; ranges = s.ranges; asserts = s.asserts }
-
-here_ways : (s : State) (g src iif : ℕ) → ways (source_here s g src iif) ≡ ways s
-unfolding source_here settle_register with_keepalive
-here_ways s g src iif = grind arith
-
-joined_ways : (s : State) (g src iif : ℕ) → ways (source_joined s g src iif) ≡ ways s
-unfolding source_joined with_keepalive
-joined_ways s g src iif = grind arith
-
-updated_ways : (s : State) (g src iif : ℕ) → ways (spt_updated s g src iif) ≡ ways s
-unfolding spt_updated with_spt_bit
-updated_ways s g src iif = grind arith
-
-renewed_ways : (s : State) (g src iif : ℕ) → ways (renewed s g src iif) ≡ ways s
-unfolding renewed
-renewed_ways s g src iif =
-    updated_ways (source_joined (source_here s g src iif) g src iif) g src iif
-    ∙ (joined_ways (source_here s g src iif) g src iif ∙ here_ways s g src iif)
-
-module _ (s t : State) (same : ways t ≡ ways s) (g src j : ℕ) where
-  abbrev with_ways : Ways → State
-  with_ways w = record s { configured = w.configured; interfaces = w.interfaces; routes = w.routes; ranges = w.ranges; asserts = w.asserts }
-
+module _ (s t : State) (same : kept t ≡ kept s) (g src j : ℕ) where
   star_same : lost_assert_star t g j ≡ lost_assert_star s g j
   unfolding lost_assert_star rpf_interface_rp rp_route rp_of route
-  star_same = λ x. lost_assert_star (with_ways (same x)) g j
+  star_same = λ x. lost_assert_star (with_kept s (same x)) g j
 
   source_same : lost_assert t g src j ≡ lost_assert s g src j
   unfolding lost_assert rpf_interface route is_beaten spt_metric
-  source_same = λ x. lost_assert (with_ways (same x)) g src j
+  source_same = λ x. lost_assert (with_kept s (same x)) g src j
 
   -- a source's own way there says that SPTbit doesn't matter
   rpt_so : (a b c d l x : Bool) → ((not b && l) && x) ≡ true → (not (a || (b && c)) && l) ≡ true → (not (a || (b && d)) && l) ≡ true
@@ -99,7 +25,7 @@ module _ (s t : State) (same : ways t ≡ ways s) (g src j : ℕ) where
   rpt_stays : lost_assert s g src j ≡ true → lost_assert_rpt s g src j ≡ true → lost_assert_rpt t g src j ≡ true
   unfolding lost_assert lost_assert_rpt rpf_interface rpf_interface_rp rp_route rp_of route
   rpt_stays lost rpt =
-      (λ x. not (is_rpf_interface_rp (with_ways (same x)) g j || (is_rpf_interface (with_ways (same x)) src j && spt_bit t g src))
+      (λ x. not (is_rpf_interface_rp (with_kept s (same x)) g j || (is_rpf_interface (with_kept s (same x)) src j && spt_bit t g src))
       && is_loser (row_at (same x).asserts (source_key j g src)))
       ∙ rpt_so (is_rpf_interface_rp s g j) (is_rpf_interface s src j) (spt_bit s g src) (spt_bit t g src) (is_loser (assert_source s g src j))
       (is_beaten s g src j) lost rpt
@@ -154,8 +80,8 @@ module _ (s : State) (iif : ℕ) (p : Packet) (src j : ℕ) where
   abbrev t : State
   t = renewed s p.destination p.source iif
 
-  abbrev same : ways t ≡ ways s
-  same = renewed_ways s p.destination p.source iif
+  abbrev same : kept t ≡ kept s
+  same = renewed_kept s p.destination p.source iif
 
   list_off : (b : Bool) → (src == 0) ≡ b
       → cond b (not (is_rpf_interface t p.source iif && spt_bit t p.destination p.source)) (p.source == src) ≡ true
@@ -174,10 +100,11 @@ module _ (s : State) (iif : ℕ) (p : Packet) (src j : ℕ) where
       (either_second _ _ (rpt_stays s t same p.destination p.source j tree rpt))
 
 pub loser_sends_none : LoserSendsNone
-unfolding forwarded renewed
+unfolding change forwarded renewed
 loser_sends_none s e i p g src j text was about lost c =
     let is : p.destination ≡ g = eqb-true p.destination g (first_so (p.destination == g) _ about) in
-    no_copy s e i p j was
+    no_copy s e (Accepted.Data i p) p (forwarded s p.destination p.source i.number) j was refl refl
+    (forwarded_configured s p.destination p.source i.number)
     (ap (λ (b : Bool). b && not (j == i.number))
     (list_off s i.number p src j (src == 0) refl (second_so (p.destination == g) _ about)
     (subst (λ (x : ℕ). is_silenced s x src j ≡ true) (sym is) lost)))
@@ -199,7 +126,7 @@ module _ (g src : ℕ) (metric : AssertMetric) (c : Adjacent) where
       ∙ beaten refl)
       (λ x. not (group x || (source refl x && spt_bit s g src)) && is_loser (row x))
 
-  silenced : (n : Network) → HasLostTo g src metric c n → IsOffTree g src metric c n → (st : Station) → station_at n c.upper ≡ Some st
+  pub silenced : (n : Network) → HasLostTo g src metric c n → IsOffTree g src metric c n → (st : Station) → station_at n c.upper ≡ Some st
       → is_silenced st.state g src c.down ≡ true
   silenced n lost off st at =
       let row = subst (λ (z : Station). row_at (z.state).asserts (cond (src == 0) (star_key c.down g) (source_key c.down g src))

@@ -10,12 +10,12 @@ each_one : (P : Member → Type 0) (xs : List Member) → ((y : Member) → IsOn
 each_one P [] f = tt
 each_one P (x ∷ xs) f = (f x (inl refl), each_one P xs (λ y a. f y (inr a)))
 
-one_of : (P : Member → Type 0) (xs : List Member) (y : Member) → AllByRecursion P xs → IsOne xs y → P y
+pub one_of : (P : Member → Type 0) (xs : List Member) (y : Member) → AllByRecursion P xs → IsOne xs y → P y
 one_of P [] y f none = absurd none
 one_of P (x ∷ xs) y f (inl same) = subst P same f.0
 one_of P (x ∷ xs) y f (inr later) = one_of P xs y f.1 later
 
-fewer : (d : ℕ) → d < most_late_hello → d < most_late
+pub fewer : (d : ℕ) → d < most_late_hello → d < most_late
 fewer d e = omega (arith, e)
 
 module _ (started : ℕ → ℕ) (bound : ℕ) where
@@ -183,7 +183,7 @@ module _ (started : ℕ → ℕ) (bound : ℕ) where
         sums u v e = omega (arith, e)
 
     module _ (lag : ℕ) (together : Always (AreTogether lag started) n ms) where
-      hops_past : (x : Join) (g : ℕ) (cs : List Pair) (begin : ℕ) → begin + (length cs - 1) * a_hop d lag ≤ bound
+      pub hops_past : (x : Join) (g : ℕ) (cs : List Pair) (begin : ℕ) → begin + (length cs - 1) * a_hop d lag ≤ bound
           → AreHeldPast x g d lag begin started n ms cs → AllByRecursion (λ c. HoldsPast started bound (IsHeld x g c) n ms) cs
       hops_past x g [] begin by f = tt
       hops_past x g (c ∷ []) begin by f = (later_past started bound begin (at_least begin _ by) (IsHeld x g c) ms n f.0, tt)

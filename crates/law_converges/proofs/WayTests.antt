@@ -16,7 +16,7 @@ module _ (started : ℕ → ℕ) (bound r : ℕ) where
   abbrev pub early : Network → Bool
   early n = option_map_or (λ (st : Station). nat_le (time_at started r st) bound) (station_at n r) false
 
-  isnt_past : (n : Network) → early n ≡ true → ArePast started bound n → ⊥
+  pub isnt_past : (n : Network) → early n ≡ true → ArePast started bound n → ⊥
   isnt_past n e past =
       let f : Found Station (λ (st : Station). nat_le (time_at started r st) bound) (station_at n r) = found Station _ (station_at n r) e in
       over (time_at started r f.it) (le_so _ _ f.passes) (past r f.it f.is)
@@ -64,7 +64,7 @@ only_so link down k (suc i) (l ∷ ls) e got = then e (λ first rest. moved_on (
 abbrev pub one_on : (down link : ℕ) → Station → Bool
 one_on down link st = same_option (slice_get st.links down) (Some link) && only_on link down 0 st.links
 
-one_on_so : (down link : ℕ) (st : Station) → one_on down link st ≡ true → HasOneOn down link st
+pub one_on_so : (down link : ℕ) (st : Station) → one_on down link st ≡ true → HasOneOn down link st
 one_on_so down link st e =
     then e (λ linked single. record {
       linked = same_so _ _ linked;

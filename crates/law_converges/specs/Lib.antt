@@ -29,8 +29,17 @@ pub mod CarriedPrunes
 pub mod Settles
 pub mod CarriedNetwork
 pub mod CarriedWays
+pub mod RoutesToRp
+pub mod RoutedWays
 pub mod AloneByAssert
+pub mod SilentRouters
+pub mod MemberLinks
+pub mod AloneOnLink
+pub mod EachMember
 pub mod CarriedNetworkRun
 pub mod CarriedWaysRun
+pub mod RoutesToRpRun
 pub mod ComesOnceRun
 pub mod AloneByAssertRun
+pub mod MemberLinksRun
+pub mod EachMemberRun

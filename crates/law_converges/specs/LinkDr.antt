@@ -1,5 +1,5 @@
 -- One DR on a link, some time after the last change (RFC 7761, 4.3.2).
-use Rattle.std.{specs.{List.{list_all, list_any}, Option.option_map_or, Prelude.{Bool, List, Option, Some, [], false, nat_le, not, true, ℕ, ◌&&◌, ◌*◌, ◌+◌, ◌<◌, ◌==◌, ◌||◌, ◌∷◌, ◌≡◌, ◌≤◌, ◌⊎◌}}}
+use Rattle.std.{specs.{List.{list_all, list_any}, Option.option_map_or, Prelude.{Bool, List, Option, Some, [], false, if◌then◌else◌, nat_le, nat_lt, not, true, ℕ, ◌&&◌, ◌*◌, ◌+◌, ◌<◌, ◌==◌, ◌||◌, ◌∷◌, ◌≡◌, ◌≤◌, ◌⊎◌}}}
 use Rattle.pim_types.{specs.{Keys.{iface_key, is_on, source_in}, declared.{event.Event.Event, fact.{InterfaceRow.InterfaceRow, Key.Key, NeighbourRow.NeighbourRow}}}}
 use Rattle.pim_model.{specs.{declared.accepted.Accepted.Accepted, Cause.done_as, Neighbours.is_dr, Network.{Move, Network, Station, event_of, moved, station_at}, State.my_priority, Tables.{row_at, same_option}}}
 use Rattle.law_streams.{specs.{Adjacent.{Adjacent, HellosInTime, Sends, most_late_hello}, Copies.happens, InTimeJoins.{Always, IsReady, time_at}}}
@@ -88,12 +88,17 @@ pub record IsDrOf (x : Member) (n : Network) : Type 0 where
   pub there : station_at n x.router ≡ Some station
   pub elected : is_dr station.state x.iface ≡ true
 
--- one of the routers is the DR of the link, and no other
+-- one router is preferred to another as the DR: by a higher priority, or, where both have the same, by a higher address
+abbrev pub is_preferred : Member → Member → Bool
+is_preferred x y = if not (x.priority == y.priority) then nat_lt y.priority x.priority else nat_lt y.address x.address
+
+-- one of the routers is the DR of the link, and no other: that to which none is preferred
 pub record HasOneDr (members : List Member) (n : Network) : Type 0 where
   pub member : Member
   pub among : IsOne members member
   pub elected : IsDrOf member n
   pub only : (y : Member) → IsOne members y → IsDrOf y n → member ≡ y
+  pub first : (y : Member) → IsOne members y → is_preferred y member ≡ false
 
 -- the time at each of the routers is past a bound
 abbrev pub AllPast : (ℕ → ℕ) → List Member → (bound : ℕ) → Network → Type 0

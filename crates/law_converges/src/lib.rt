@@ -11,5 +11,7 @@ pub mod members;
 pub mod networks;
 pub mod next_hops;
 pub mod overrides;
+pub mod routes;
 pub mod runs;
+pub mod served;
 pub mod ways;

@@ -3,6 +3,7 @@ ghost use Rattle.law_converges.specs.AloneByAssertRun.{WinnerAloneOnPlan};
 ghost use Rattle.law_converges.specs.CarriedNetworkRun.{OverrideComesInOrder, PlanIsQuiet, PlanSettles, PruneHasNoEffect};
 ghost use Rattle.law_converges.specs.CarriedWaysRun.{PlanBringsNothingElse, PlanIsOpen, PlanServesOnce};
 ghost use Rattle.law_converges.specs.ComesOnceRun.{ChainForwards, ChainServesOnce};
+ghost use Rattle.law_converges.specs.EachMemberRun.{LowIsReached, LowIsServed};
 ghost use Rattle.law_converges.specs.JoinedWaysRun.{ChainComesInTime, ChainComesToBeJoined, ChainPassesOnce};
 ghost use Rattle.law_converges.specs.LeftGroupRun.{SilentGroupEnds};
 ghost use Rattle.law_converges.specs.LinkAssertsRun.{FartherLoses, NearerAnswers};
@@ -11,8 +12,10 @@ ghost use Rattle.law_converges.specs.LinkJoinsRun.{BothComeToBeHeld, BothJoinInT
 ghost use Rattle.law_converges.specs.LinkLosersRun.{FartherComesToLose, FartherStaysLoser, NearerAssertsInTime};
 ghost use Rattle.law_converges.specs.LinkMembersRun.{HostAnswersInTime, HostComesToBeKnown, HostStaysKnown};
 ghost use Rattle.law_converges.specs.LinkQuerierRun.{OneComesToQuery, QueriesComeInTime};
+ghost use Rattle.law_converges.specs.MemberLinksRun.{LowBringsNothingElse, LowHasNoOthers, LowIsOpen, LowIsServedOnce, LowIsWanted};
 ghost use Rattle.law_converges.specs.OneSenderRun.{FartherSendsNone};
 ghost use Rattle.law_converges.specs.NextHopRun.{OtherTakesOver, RouterTurns};
+ghost use Rattle.law_converges.specs.RoutesToRpRun.{FartherIsHeldToRp, FartherWayIsQuiet, NearerIsServedOnce, RoutesLeadOnPlan};
 
 /// The first router of the chain turns from one next hop to another.
 pub fn router_turns()
@@ -141,6 +144,27 @@ pub fn plan_settles()
     ensures { PlanSettles }
 {}
 
+/// To begin with the routers of the LANs are neighbours, their routes lead to the RP, and the second router, whose way isn't in
+/// the plan, wants the group too.
+pub fn routes_lead_on_plan()
+    ensures { RoutesLeadOnPlan }
+{}
+
+/// So a way of it leads to the RP, and at the end each next hop of this way holds what is joined.
+pub fn farther_is_held_to_rp()
+    ensures { FartherIsHeldToRp }
+{}
+
+/// And the plan is as quiet with this way.
+pub fn farther_way_is_quiet()
+    ensures { FartherWayIsQuiet }
+{}
+
+/// The way of the first router, by the routes, is the one in the plan, and down it each packet comes once.
+pub fn nearer_is_served_once()
+    ensures { NearerIsServedOnce }
+{}
+
 /// From the bound on the RP and the winner of the assert forward the source's packets, and no other router sends them on the LANs.
 pub fn plan_is_open()
     ensures { PlanIsOpen }
@@ -169,4 +193,39 @@ pub fn chain_serves_once()
 /// The assert's loser hears the packet on the other LAN, and the winner alone sends it on the host's.
 pub fn winner_alone_on_plan()
     ensures { WinnerAloneOnPlan }
+{}
+
+/// The host's LAN of the two is served by the winner of the assert, whose next hop, the RP, holds the group from the bound on.
+pub fn low_is_open()
+    ensures { LowIsOpen }
+{}
+
+/// So the winner wants the group.
+pub fn low_is_wanted()
+    ensures { LowIsWanted }
+{}
+
+/// So each packet that comes to the RP is on the host's LAN once.
+pub fn low_is_served_once()
+    ensures { LowIsServedOnce }
+{}
+
+/// The loser of the assert isn't asked on the host's LAN, nor either of the two on the RP's LAN.
+pub fn low_has_no_others()
+    ensures { LowHasNoOthers }
+{}
+
+/// So nothing else of the source comes to the host's LAN.
+pub fn low_brings_nothing_else()
+    ensures { LowBringsNothingElse }
+{}
+
+/// By its routes the RP is the next hop of the router that serves the host's LAN, and nothing keeps the packets from the two.
+pub fn low_is_reached()
+    ensures { LowIsReached }
+{}
+
+/// So the host's LAN is served without a way that is given.
+pub fn low_is_served()
+    ensures { LowIsServed }
 {}
