@@ -874,6 +874,7 @@ static void without_a_listener(struct viq_router *router) {
     struct viq_bsr_elected elected = {7, 7, 7};
     struct viq_bsr_rp rp = {.rp = 7};
     struct viq_bsr_part part = {.rp = 7};
+    struct viq_range range = {.rp = 7};
     uint8_t none[1] = {0};
     bool moved = true;
     is("hear without a listener", viq_bsr_hear(NULL, router, 0, none, 1, &moved), VIQ_NO_LISTENER);
@@ -886,9 +887,9 @@ static void without_a_listener(struct viq_router *router) {
     is("no limit without a listener", viq_bsr_ranges(NULL, router, 0, one, 1, viq_draw(7)), VIQ_NO_SETTING);
     is("next without a listener", viq_bsr_next(NULL), VIQ_NEVER);
     is("elected without a listener", viq_bsr_elected(NULL, &elected), false);
-    is("RPs without a listener", viq_bsr_rps(NULL) + viq_bsr_parts(NULL), 0);
-    is("one of them without a listener", viq_bsr_rp(NULL, 0, &rp) || viq_bsr_part(NULL, 0, &part), false);
-    is("what isn't written of them", elected.bsr == 7 && rp.rp == 7 && part.rp == 7, true);
+    is("RPs without a listener", viq_bsr_rps(NULL) + viq_bsr_parts(NULL) + viq_bsr_configured(NULL), 0);
+    is("one of them without a listener", viq_bsr_rp(NULL, 0, &rp) || viq_bsr_part(NULL, 0, &part) || viq_bsr_range(NULL, 0, &range), false);
+    is("what isn't written of them", elected.bsr == 7 && rp.rp == 7 && part.rp == 7 && range.rp == 7, true);
     viq_bsr_end(NULL);
 }
 
@@ -963,6 +964,44 @@ static void second_fragment(struct viq_bsr *bsr, struct viq_router *router) {
     is("next end", viq_bsr_next(bsr), 151005);
 }
 
+/* A listener of these bytes, which is ended; or why there is none. */
+static uint32_t listening(const uint8_t *bytes, size_t length) {
+    struct viq_bsr *bsr = (struct viq_bsr *)&wrong;
+    uint32_t answer = viq_bsr_restore(&bsr, VIQ_ABI, bytes, length);
+    is("a listener where there is one", bsr != NULL, answer == VIQ_DONE);
+    viq_bsr_end(bsr);
+    return answer;
+}
+
+/* A listener in the place of one that heard a fragment: the run goes on with it. */
+static struct viq_bsr *saved_and_restored(struct viq_bsr *bsr) {
+    static uint8_t saved[256], again[sizeof saved];
+    struct viq_bsr *other = (struct viq_bsr *)&wrong;
+    struct viq_range range = {.rp = 7};
+    size_t size = 7, size_again = 7;
+    is("save without a listener", viq_bsr_save(NULL, saved, sizeof saved, &size), VIQ_NO_LISTENER);
+    is("no size of it", size, 7);
+    is("the size of a listener", viq_bsr_save(bsr, NULL, 0, &size), VIQ_DONE);
+    is("one range, a BSR, two parts, and a message of 46 bytes", size, 197);
+    is("save a part", viq_bsr_save(bsr, saved, 6, &size) == VIQ_DONE && memcmp(saved, "VIQB\0\1\0", 7) == 0, true);
+    is("save a listener", viq_bsr_save(bsr, saved, sizeof saved, &size), VIQ_DONE);
+    viq_bsr_end(bsr);
+    is("another ABI", viq_bsr_restore(&other, VIQ_ABI + 1, saved, size), VIQ_OTHER_ABI);
+    is("no listener of it", other == NULL, true);
+    for (size_t at = 0; at < size; at++) {
+        is("cut", listening(saved, at), at < 6 ? VIQ_CUT_SHORT : VIQ_DAMAGED);
+        saved[at] ^= 0x20;
+        is("changed", listening(saved, size), at < 4 ? VIQ_NOT_OURS : at < 6 ? VIQ_OTHER_VERSION : VIQ_DAMAGED);
+        saved[at] ^= 0x20;
+    }
+    is("restore a listener", viq_bsr_restore(&other, VIQ_ABI, saved, size), VIQ_DONE);
+    is("save it again", viq_bsr_save(other, again, sizeof again, &size_again), VIQ_DONE);
+    is("the same bytes of it", size == size_again && memcmp(saved, again, size) == 0, true);
+    is("its range", viq_bsr_configured(other) == 1 && viq_bsr_range(other, 0, &range) && !viq_bsr_range(other, 1, &range), true);
+    is("as it was given", memcmp(&range, narrow, sizeof range), 0);
+    return other;
+}
+
 static void other_ranges(struct viq_bsr *bsr, struct viq_router *router) {
     static const struct viq_range wide[] = {{WIDE, 8, STATIC}}, twice[] = {{WIDE, 8, STATIC}, {WIDE, 8, STATIC}};
     viq_clear(router);
@@ -1001,6 +1040,7 @@ static void bootstraps(void) {
     is("the neighbour below", frame(router, 1, hello_below), VIQ_DONE);
     is("advance to 1 s", viq_advance(router, 1000, viq_draw(7)), VIQ_DONE);
     first_fragment(bsr, router);
+    bsr = saved_and_restored(bsr);
     second_fragment(bsr, router);
     other_ranges(bsr, router);
     ends_of_learned(bsr, router);
@@ -1418,13 +1458,42 @@ static uint32_t restored(const uint8_t *bytes, size_t length) {
     return answer;
 }
 
-/* The same of these bytes and their sum. */
-static uint32_t summed(const uint8_t *bytes, size_t length) {
-    static uint8_t whole[sizeof saved + 4];
+/* Bytes with their sum, and how many there are then. */
+static uint8_t whole[sizeof saved + 4];
+
+static size_t with_sum(const uint8_t *bytes, size_t length) {
     uint32_t sum = ~crc_of(UINT32_MAX, bytes, length);
     memcpy(whole, bytes, length);
     for (int at = 0; at < 4; at++) whole[length + at] = (uint8_t)(sum >> (24 - 8 * at));
-    return restored(whole, length + 4);
+    return length + 4;
+}
+
+/* The same of these bytes and their sum. */
+static uint32_t summed(const uint8_t *bytes, size_t length) { return restored(whole, with_sum(bytes, length)); }
+
+/* A listener that knows one RP of 239.0.0.0/8, which has to be what a message can say. */
+static void listeners_of_bytes(void) {
+    uint8_t bytes[87] = "VIQB\0\1";
+    const uint8_t rp[] = {239, 0, 0, 0, 0, 0, 0, 8, 30, 10, 9, 9, 9};
+    bytes[21] = 1;                    /* the limit */
+    bytes[39] = 1;                    /* how many RPs are in force */
+    memcpy(bytes + 40, rp, sizeof rp);
+    is("one RP", listening(whole, with_sum(bytes, 86)), VIQ_DONE);
+    is("a byte more", listening(whole, with_sum(bytes, 87)), VIQ_LEFT_OVER);
+    is("a byte less", listening(whole, with_sum(bytes, 85)), VIQ_CUT_SHORT);
+    bytes[47] = 3;
+    is("a range that is too wide", listening(whole, with_sum(bytes, 86)), VIQ_RPS_NOT_HELD);
+    bytes[47] = 33;
+    is("one that is too narrow", listening(whole, with_sum(bytes, 86)), VIQ_RPS_NOT_HELD);
+    bytes[47] = 8;
+    bytes[49] = 224;
+    is("a group as RP", listening(whole, with_sum(bytes, 86)), VIQ_RPS_NOT_HELD);
+    bytes[49] = 10;
+    bytes[21] = 0;
+    is("no room", listening(whole, with_sum(bytes, 86)), VIQ_RPS_NOT_HELD);
+    bytes[21] = 1;
+    bytes[22] = 2;
+    is("no such flag", listening(whole, with_sum(bytes, 86)), VIQ_OUT_OF_RANGE);
 }
 
 static void sizes(struct viq_router *router) {
@@ -1520,6 +1589,7 @@ static void saved_routers(void) {
     refused_bytes(router);
     goes_on(router);
     viq_end(router);
+    listeners_of_bytes();
 }
 
 /* ---- records */

@@ -317,6 +317,19 @@ uint32_t viq_bsr_new(struct viq_bsr **bsr, uint32_t abi, uint32_t limit, const s
     return answer;
 }
 
+uint32_t viq_bsr_restore(struct viq_bsr **bsr, uint32_t abi, const uint8_t *bytes, size_t length) {
+    struct viq_core_bsr core = {NULL, false};
+    *bsr = NULL;
+    if (abi != VIQ_ABI) return VIQ_OTHER_ABI;
+    uint32_t answer = viq_core_bsr_restore(&core, bytes, length);
+    if (core.is_there) *bsr = (struct viq_bsr *)core.place;
+    return answer;
+}
+
+uint32_t viq_bsr_save(const struct viq_bsr *bsr, uint8_t *room, size_t room_length, size_t *size) {
+    return viq_core_bsr_save(LISTENER(bsr), room, room_length, size);
+}
+
 void viq_bsr_end(struct viq_bsr *bsr) { viq_core_bsr_end(LISTENER(bsr)); }
 
 uint32_t viq_bsr_hear(struct viq_bsr *bsr, struct viq_router *router, uint32_t iface, const uint8_t *packet,
@@ -338,6 +351,12 @@ uint32_t viq_bsr_ranges(struct viq_bsr *bsr, struct viq_router *router, uint32_t
                         size_t count, struct viq_draw draw) {
     struct range_list given = ranges_of(ranges, count);
     return viq_core_bsr_ranges(LISTENER(bsr), CORE(router), draw.bits, limit, given.at, given.count);
+}
+
+size_t viq_bsr_configured(const struct viq_bsr *bsr) { return viq_core_bsr_configured(LISTENER(bsr)); }
+
+bool viq_bsr_range(const struct viq_bsr *bsr, size_t index, struct viq_range *range) {
+    return viq_core_bsr_range(LISTENER(bsr), index, range);
 }
 
 bool viq_bsr_elected(const struct viq_bsr *bsr, struct viq_bsr_elected *elected) {

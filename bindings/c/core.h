@@ -111,6 +111,8 @@ uint64_t viq_core_probes(struct viq_core *router);
 uint64_t viq_core_touched(struct viq_core *router);
 uint32_t viq_core_bsr_new(struct viq_core_bsr *listener, uint32_t limit, const struct viq_range *ranges, size_t count,
                           uint64_t refresh_end);
+uint32_t viq_core_bsr_restore(struct viq_core_bsr *listener, const uint8_t *bytes, size_t length);
+uint32_t viq_core_bsr_save(struct viq_core_bsr *listener, uint8_t *room, size_t room_length, size_t *size);
 void viq_core_bsr_end(struct viq_core_bsr *listener);
 uint32_t viq_core_bsr_hear(struct viq_core_bsr *listener, struct viq_core *router, uint32_t iface,
                            const uint8_t *packet, size_t length, bool *moved);
@@ -119,6 +121,8 @@ uint64_t viq_core_bsr_next(struct viq_core_bsr *listener);
 uint32_t viq_core_bsr_pass(struct viq_core_bsr *listener, uint64_t moment, bool *moved);
 uint32_t viq_core_bsr_ranges(struct viq_core_bsr *listener, struct viq_core *router, uint32_t draw, uint32_t limit,
                              const struct viq_range *ranges, size_t count);
+size_t viq_core_bsr_configured(struct viq_core_bsr *listener);
+bool viq_core_bsr_range(struct viq_core_bsr *listener, size_t index, struct viq_range *range);
 bool viq_core_bsr_elected(struct viq_core_bsr *listener, struct viq_bsr_elected *elected);
 size_t viq_core_bsr_rps(struct viq_core_bsr *listener);
 bool viq_core_bsr_rp(struct viq_core_bsr *listener, size_t index, struct viq_bsr_rp *row);

@@ -62,6 +62,7 @@ const char *viq_answer_text(uint32_t answer) {
     case VIQ_DAMAGED: return "the saved state is damaged: its sum is another one";
     case VIQ_NOT_NEAR: return "a timer of the saved state ends later than it may, or a fact lies where none can";
     case VIQ_HOSTS_NOT_HELD: return "the saved groups of older hosts can't be read, or are none that the saved router can have";
+    case VIQ_RPS_NOT_HELD: return "the saved RPs of Bootstraps are none that a listener can have";
     case VIQ_OWN: return "ignored: the router's own packet";
     case VIQ_NOT_FOR_ME: return "ignored: not for this router";
     case VIQ_OTHER_TYPE: return "ignored: a PIM message of another type";

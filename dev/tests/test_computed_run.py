@@ -1,7 +1,7 @@
 """`dev/computed_run`: which equations it makes of a scenario, and what it makes of the kernel's answers.
 
-The kernel is a stand-in here. With KERNEL=1 in the environment the kit's own is asked too, as `./test` does once
-`pim_runs` is proved; that takes minutes.
+The kernel is a stand-in here. With KERNEL=1 in the environment the kit's own is asked too, which takes minutes the
+first time.
 """
 import contextlib
 import io

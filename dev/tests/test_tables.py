@@ -85,7 +85,8 @@ class Tables(unittest.TestCase):
         self.assertEqual(self.holders("| 80 | `BadOption` | an odd when |"), {"docs/SAVED.md"})
 
     def test_so_is_one_of_a_saved_state(self):
-        for of, crate in (("RestoreRefusal", "pim_worlds"), ("HeldRefusal", "igmp_older_saved")):
+        for of, crate in (("RestoreRefusal", "pim_worlds"), ("HeldRefusal", "igmp_older_saved"),
+                          ("ListenerRefusal", "pim_bsr")):
             with self.subTest(of):
                 self.setUp()
                 self.with_answer(80, 101, of)

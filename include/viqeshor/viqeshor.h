@@ -64,9 +64,9 @@ extern "C" {
 #define VIQ_VERSION_PATCH 0
 
 /* The number of what a compiled program and a library have to agree on: the values, the calls and the numbers of this
- * header and of plane.h. Wherever one of them changes, this number changes. A program passes it to viq_new and
- * viq_restore, which refuse any other. */
-#define VIQ_ABI 10
+ * header and of plane.h. Wherever one of them changes, this number changes. A program passes it to viq_new, viq_restore,
+ * viq_bsr_new and viq_bsr_restore, which refuse any other. */
+#define VIQ_ABI 11
 
 /* The library's number: VIQ_ABI as it was built with. */
 uint32_t viq_abi(void);
@@ -151,6 +151,7 @@ enum {
     VIQ_DAMAGED = 69,
     VIQ_NOT_NEAR = 72,
     VIQ_HOSTS_NOT_HELD = 71,
+    VIQ_RPS_NOT_HELD = 75,
 
     VIQ_IGNORED = 100, /* no answer: the reasons to ignore an event are the numbers above it */
     VIQ_OWN = 101,
@@ -813,9 +814,10 @@ uint32_t viq_anycast(struct viq_router *router, const struct viq_rp_set *sets, s
  *   were configured before, and those of viq_bsr_rp that it is given. Then viq_bsr_ranges sets the new configured ones.
  * - A listener that comes is made of the ranges that the router has. One that goes leaves them to viq_ranges.
  *
- * What a listener knows isn't saved by viq_save: a restored router has the ranges that it was given last. */
+ * What a listener knows isn't saved by viq_save, but by viq_bsr_save; a restored router has the ranges that it was given
+ * last, and goes on with the listener that viq_bsr_restore makes of what was saved with it. */
 
-/* A listener. Whoever made it by viq_bsr_new frees it by viq_bsr_end. A listener may be NULL, as a router may. At any
+/* A listener. Whoever made it by viq_bsr_new or viq_bsr_restore frees it by viq_bsr_end. A listener may be NULL, as a router may. At any
  * time at most one call uses a listener. */
 struct viq_bsr;
 
@@ -828,6 +830,21 @@ struct viq_bsr;
 VIQ_READ_ANSWER VIQ_NOT_NULL(1)
 uint32_t viq_bsr_new(struct viq_bsr **bsr, uint32_t abi, uint32_t limit, const struct viq_range *ranges, size_t count,
                      uint64_t refresh_end);
+
+/* Saves all that the listener knows, which stays as it is: the configured ranges and the limit, the elected BSR, the RPs
+ * in force and those of messages of which fragments are missing, with the moments at which they expire, and the last
+ * message. `size` gets how many bytes there are. As many of them as room_length allows are written into `room`, and the
+ * rest of `room` is unchanged. It answers VIQ_DONE; VIQ_MEMORY or VIQ_NO_LISTENER, where nothing is written. */
+VIQ_READ_ANSWER VIQ_NOT_NULL(4)
+uint32_t viq_bsr_save(const struct viq_bsr *bsr, uint8_t *room, size_t room_length, size_t *size);
+
+/* Makes a listener of saved bytes, which knows what the one knew that was saved. It is for the router that is restored of
+ * what viq_save wrote at the same moment. All that viq_bsr_save wrote is restored, by a library that writes the same
+ * version of the format. Bytes may be anything: others are refused, or give a listener whose ranges a router refuses
+ * exactly where it refuses the configured ones alone. The second argument is VIQ_ABI. It answers VIQ_DONE, a refusal of
+ * saved bytes, VIQ_MEMORY or VIQ_OTHER_ABI. It writes what `bsr` points to as viq_bsr_new does. */
+VIQ_READ_ANSWER VIQ_NOT_NULL(1)
+uint32_t viq_bsr_restore(struct viq_bsr **bsr, uint32_t abi, const uint8_t *bytes, size_t length);
 
 /* Frees the listener and its memory. With NULL it does nothing. */
 void viq_bsr_end(struct viq_bsr *bsr);
@@ -869,6 +886,13 @@ uint32_t viq_bsr_pass(struct viq_bsr *bsr, uint64_t moment, bool *moved);
 VIQ_READ_ANSWER
 uint32_t viq_bsr_ranges(struct viq_bsr *bsr, struct viq_router *router, uint32_t limit, const struct viq_range *ranges,
                         size_t count, struct viq_draw draw);
+
+/* How many ranges are configured; and one of them, counted from 0. viq_bsr_range answers false, and writes nothing, where
+ * there is none of that number. */
+VIQ_READ_ANSWER
+size_t viq_bsr_configured(const struct viq_bsr *bsr);
+VIQ_NOT_NULL(3)
+bool viq_bsr_range(const struct viq_bsr *bsr, size_t index, struct viq_range *range);
 
 /* The elected BSR. */
 struct viq_bsr_elected {

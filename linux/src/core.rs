@@ -439,6 +439,18 @@ impl Core {
         Ok(())
     }
 
+    /// What was known of them, beside the ranges that the router then had, is known again, and as many RPs are kept from the
+    /// next event on that sets the ranges of the file.
+    pub fn resume_listener(&mut self, saved: &[u8], limit: u32) -> Result<(), Error> {
+        self.listener = Some((Bsr::restore(saved)?, limit));
+        Ok(())
+    }
+
+    /// What is known of them, as bytes; `None` where nobody listens, or memory is refused.
+    pub fn saved_listener(&self) -> Option<Vec<u8>> {
+        self.listener.as_ref().and_then(|(bsr, _)| bsr.save().ok())
+    }
+
     /// They are heard no more.
     pub fn listen_no_more(&mut self) {
         self.listener = None;

@@ -176,6 +176,9 @@ pub struct Left {
     /// The ranges of the file, of a router that hears Bootstraps.
     #[serde(default)]
     pub ranges: Option<Vec<LeftRange>>,
+    /// What it learned of them, as the library's bytes.
+    #[serde(default)]
+    pub listener: Option<Vec<u8>>,
     /// The processes that write answers.
     pub answers: Vec<i32>,
     /// The router that left it had ended in order, so that nothing happened since.
@@ -347,6 +350,7 @@ mod tests {
             learned: Some(11),
             unlearned: 12,
             ranges: Some(LeftRange::of(&[Range::new([239, 0, 0, 0].into(), 8, [10, 0, 0, 9].into())])),
+            listener: Some(vec![14, 15]),
             answers: vec![13],
             is_in_order: true,
         }
@@ -360,16 +364,17 @@ mod tests {
         assert_eq!(LeftEntry::of(left.entries[0].key(), &entry), left.entries[0]);
     }
 
-    /// One that had every address on a link, and said of its loopback that it is one.
+    /// One that had every address on a link, said of its loopback that it is one, and kept nothing of Bootstraps.
     #[test]
     fn what_an_older_daemon_left_is_read() {
         let mut value = serde_json::to_value(left()).expect("it is JSON");
         value["told"].as_object_mut().expect("it has fields").remove("addresses");
+        value.as_object_mut().expect("it has fields").remove("listener");
         let port = value["ports"][0].as_object_mut().expect("it has fields");
         port.remove("is_apart");
         port.insert("is_loopback".to_string(), true.into());
         let read: Left = serde_json::from_value(value).expect("it is read");
-        assert_eq!((read.told.addresses.len(), read.ports[0].is_apart), (0, false));
+        assert_eq!((read.told.addresses.len(), read.ports[0].is_apart, read.listener), (0, false, None));
     }
 
     #[test]

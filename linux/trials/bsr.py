@@ -87,7 +87,7 @@ class Chain:
 
     def say(self, seconds: int, *rps: str, fragments: int = 0) -> subprocess.Popen[str]:
         """The BSR says for so many seconds that these are the RPs of each range; it may say the first so many alone, in
-        fragments."""
+        fragments, or the last one (-1)."""
         what = ["fragments", fragments] if fragments else ["bootstraps"]
         return self.net.start("bsr", "python3", SENDER, "to-heard", BSR, *what, seconds, HOLDTIME, RANGES, *rps)
 
@@ -95,6 +95,10 @@ class Chain:
         """The RPs of the router, by their ranges."""
         rows = self.net.show("rp", control=self.control)
         return {row["groups"]: row["rp"] for row in rows if row["from"] == "bsr"}
+
+    def waiting(self) -> list[str]:
+        """The RPs of which other fragments are missing at the router."""
+        return [row["address"] for row in self.net.show("bsr", control=self.control) if row["what"] == "waits"]
 
     def behind(self) -> dict[str, str]:
         """The RPs that FRR learned, by their ranges."""
@@ -172,4 +176,28 @@ def a_learned_rp_serves_a_stream(net: Network) -> str:
     return f"{came} of {count} packets, with a gap of {gap} ms"
 
 
-TRIALS = [bootstraps_are_heard_and_passed_on, a_learned_rp_serves_a_stream]
+def what_was_learned_outlasts_an_upgrade(net: Network) -> str:
+    """after an upgrade the router has a silent BSR's RPs until their ends, and puts a fragment to one of before"""
+    chain = Chain(net)
+    try:
+        chain.lay_out()
+        chain.start()
+        first = chain.say(25, *CANDIDATES)
+        chosen = both_have(chain, "both have RPs of the BSR", CANDIDATES)
+        first.terminate()
+        chain.upgrade()
+        if chain.heard() != chosen:
+            raise Failed(f"after an upgrade the router has learned {chain.heard()}")
+        until("the RPs end in both", HOLDTIME + 15, lambda: not chain.heard() and not chain.behind())
+        chain.say(1, OTHER, LAST, fragments=1).wait()
+        chain.upgrade()
+        if chain.heard() or chain.waiting() != [OTHER] * RANGES:
+            raise Failed(f"after a fragment and an upgrade {chain.waiting()} wait, and the router has {chain.heard()}")
+        chain.say(1, OTHER, LAST, fragments=-1).wait()
+        both_have(chain, "both have the RPs of both fragments", [OTHER, LAST])
+    finally:
+        chain.end()
+    return f"{len(chosen)} ranges over one upgrade, and a fragment of {RANGES} over another"
+
+
+TRIALS = [bootstraps_are_heard_and_passed_on, a_learned_rp_serves_a_stream, what_was_learned_outlasts_an_upgrade]

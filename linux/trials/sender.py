@@ -22,7 +22,7 @@
                                                         address: COUNT ranges of 16 bits, from 239.41.0.0 on, with
                                                         these RPs each
     sender.py INTERFACE ADDRESS fragments FIRST SECONDS HOLDTIME COUNT RP ..  the same in a fragment for each RP, of
-                                                        which the first so many are sent
+                                                        which the first so many are sent, or with -1 the last
     sender.py INTERFACE ADDRESS heard SECONDS           it prints a line, and then how many packets of 1.0.0.1 came
 """
 import socket
@@ -198,9 +198,10 @@ def main() -> None:
         first = int(rest.pop(0)) if what == "fragments" else None
         seconds, holdtime, count = map(int, rest[:3])
         rps = [socket.inet_aton(rp) for rp in rest[3:]]
+        parts = [rps] if first is None else [[rp] for rp in (rps[first:] if first < 0 else rps[:first])]
         for number in range(seconds):
             link.send(ip(own, ALL_PIM_ROUTERS, PIM, hello(9, priority=0)))
-            for some in [rps] if first is None else [[rp] for rp in rps[:first]]:
+            for some in parts:
                 message = bootstrap(own, number, holdtime, count, some, len(rps))
                 link.send(ip(own, ALL_PIM_ROUTERS, PIM, message))
             time.sleep(1)

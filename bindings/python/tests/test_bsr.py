@@ -77,6 +77,27 @@ class Listening(unittest.TestCase):
         wanted = [LearnedPart("239.0.0.0/8", rp, 5, 150, BSR, 7, 131_000) for rp in (SECOND, THIRD)]
         self.assertEqual((self.bsr.parts(), self.rp()), (wanted, None))
 
+    def test_a_listener_is_saved_between_two_fragments(self):
+        self.assertEqual(self.hear(bootstrap(3, [(SECOND, 150), (THIRD, 150)])), Answer.DONE)
+        self.router.packets()
+        saved = self.bsr.save()
+        self.bsr, before = Bsr.restore(saved), self.bsr
+        self.assertEqual((self.bsr.save(), self.bsr.configured, self.bsr.parts()), (saved, CONFIGURED, before.parts()))
+        self.assertEqual((self.bsr.elected(), self.bsr.given()), (before.elected(), CONFIGURED))
+        before.end()
+        self.bsr.run_to(self.router, 1005)
+        self.assertEqual(self.hear(bootstrap(3, [(FIRST, 150)])), Answer.DONE)
+        self.assertEqual((self.rp(), self.bsr.given()), (FIRST, [*CONFIGURED, ("239.0.0.0/8", FIRST)]))
+
+    def test_bytes_that_are_no_listeners_are_refused(self):
+        saved = self.bsr.save()
+        for data, why in ((b"", Answer.CUT_SHORT), (self.router.save(), Answer.NOT_OURS),
+                          (saved[:-1] + bytes([saved[-1] ^ 1]), Answer.DAMAGED),
+                          (saved[:4] + bytes([0, 2]) + saved[6:], Answer.OTHER_VERSION)):
+            with self.assertRaises(Refused) as caught:
+                Bsr.restore(data)
+            self.assertEqual(caught.exception.answer, why)
+
     def test_the_chosen_rp_is_the_routers_until_its_end(self):
         self.learn()
         self.assertEqual((self.rp(), self.rp("239.1.1.1")), (FIRST, STATIC))

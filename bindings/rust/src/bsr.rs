@@ -75,8 +75,9 @@ pub enum Heard {
 /// With a listener a program calls [`Bsr::frame`] in the place of [`Router::frame`], [`Bsr::run_to`] in the place of
 /// [`Router::run_to`], and [`Bsr::set_ranges`] in the place of [`Router::set_ranges`]; the next timestamp at which time is
 /// to pass is [`Bsr::next_moment`]. The other calls are the steps of these. A reload gives the router the ranges that it
-/// has ([`Bsr::given`]), and then [`Bsr::set_ranges`] sets the new configured ones.
-// The pointer is of a listener that `viq_bsr_new` made, until it is dropped, as that of a `Router`.
+/// has ([`Bsr::given`]), and then [`Bsr::set_ranges`] sets the new configured ones. [`Bsr::save`] is called beside
+/// [`Router::save`].
+// The pointer is of a listener that `viq_bsr_new` or `viq_bsr_restore` made, until it is dropped, as that of a `Router`.
 pub struct Bsr {
     at: NonNull<c_void>,
     /// The ranges that are configured.
@@ -118,6 +119,52 @@ impl Bsr {
             Some(at) if answer == DONE => Ok(Bsr { at, configured: ranges.to_vec() }),
             _ => Err(Error::of(answer)),
         }
+    }
+
+    /// Makes a listener of what `save` returned, which knows what the one knew that was saved, its configured ranges too.
+    /// It is for the router that is restored of what was saved at the same moment. Bytes that are none of a listener are
+    /// refused, whatever they are.
+    pub fn restore(saved: &[u8]) -> Result<Bsr, Error> {
+        let mut made = null_mut();
+        // SAFETY: the bytes are passed as their pointer and their length, and what points to the listener is only written.
+        let answer = unsafe { viq_bsr_restore(&mut made, ABI, saved.as_ptr(), saved.len()) };
+        match NonNull::new(made) {
+            Some(at) if answer == DONE => {
+                let mut bsr = Bsr { at, configured: Vec::new() };
+                bsr.configured = bsr.ranges();
+                Ok(bsr)
+            }
+            _ => Err(Error::of(answer)),
+        }
+    }
+
+    /// All that the listener knows as bytes, of which `restore` makes a listener. A router's `save` doesn't have it.
+    pub fn save(&self) -> Result<Vec<u8>, Error> {
+        let size = self.save_into(&mut [])?;
+        let mut saved = vec![0; size];
+        self.save_into(&mut saved)?;
+        Ok(saved)
+    }
+
+    /// Saves it into `room`, as many of its bytes as it holds. Returns how many there are.
+    pub fn save_into(&self, room: &mut [u8]) -> Result<usize, Error> {
+        let mut size = 0;
+        // SAFETY: the listener is there; the room is passed as its pointer and its length.
+        done(unsafe { viq_bsr_save(self.at.as_ptr(), room.as_mut_ptr(), room.len(), &mut size) })?;
+        Ok(size)
+    }
+
+    fn ranges(&self) -> Vec<Range> {
+        // SAFETY: the listener is there.
+        let count = unsafe { viq_bsr_configured(self.at.as_ptr()) };
+        (0..count).filter_map(|index| self.range(index)).collect()
+    }
+
+    fn range(&self, index: usize) -> Option<Range> {
+        let mut range = CRange::default();
+        // SAFETY: the listener is there.
+        let is_there = unsafe { viq_bsr_range(self.at.as_ptr(), index, &mut range) };
+        is_there.then(|| Range::new(range.prefix.into(), range.length, range.rp.into()))
     }
 
     // ---- whole steps
@@ -396,6 +443,8 @@ extern "C" {
         count: usize,
         refresh_end: u64,
     ) -> u32;
+    fn viq_bsr_restore(bsr: *mut *mut c_void, abi: u32, bytes: *const u8, length: usize) -> u32;
+    fn viq_bsr_save(bsr: *const c_void, room: *mut u8, room_length: usize, size: *mut usize) -> u32;
     fn viq_bsr_end(bsr: *mut c_void);
     fn viq_bsr_hear(
         bsr: *mut c_void,
@@ -416,6 +465,8 @@ extern "C" {
         count: usize,
         draw: Draw,
     ) -> u32;
+    fn viq_bsr_configured(bsr: *const c_void) -> usize;
+    fn viq_bsr_range(bsr: *const c_void, index: usize, range: *mut CRange) -> bool;
     fn viq_bsr_elected(bsr: *const c_void, elected: *mut raw::Elected) -> bool;
     fn viq_bsr_rps(bsr: *const c_void) -> usize;
     fn viq_bsr_rp(bsr: *const c_void, index: usize, row: *mut raw::Rp) -> bool;

@@ -45,7 +45,7 @@ pub use trees::{Hop, LanDelay, Link, Neighbour, Path, Querier, Querying, Rpf, Rp
 /// The most bytes that a packet has.
 pub const MOST_BYTES: usize = 1528;
 /// What this crate and the library have to agree on: `VIQ_ABI` of `viqeshor.h`.
-pub const ABI: u32 = 10;
+pub const ABI: u32 = 11;
 
 const DONE: u32 = 0;
 const MEMORY: u32 = 40;
@@ -415,6 +415,8 @@ numbered! {
         NotNear = 72,
         /// The saved groups of older hosts can't be read, or are none that the saved router can have.
         HostsNotHeld = 71,
+        /// The saved RPs of Bootstraps are none that a listener can have.
+        RpsNotHeld = 75,
     }
 }
 
@@ -910,6 +912,7 @@ mod raw {
     }
 
     #[repr(C)]
+    #[derive(Default)]
     pub struct Range {
         pub prefix: u32,
         pub length: u32,

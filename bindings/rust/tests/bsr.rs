@@ -129,6 +129,26 @@ fn hear(bsr: &mut Bsr, router: &mut Router, message: Vec<u8>) -> (Result<Verdict
     (answer, sent)
 }
 
+#[test]
+fn a_listener_is_saved_between_two_fragments() {
+    let (mut bsr, mut router) = (listener(100), router());
+    let one = bootstrap(HEAD, &wide(3, &[(SECOND, 150), (THIRD, 150)]));
+    assert_eq!(hear(&mut bsr, &mut router, one).0, DONE);
+    let saved = bsr.save().unwrap();
+    assert_eq!(bsr.save_into(&mut []), Ok(saved.len()));
+    let mut next = Bsr::restore(&saved).unwrap();
+    assert_eq!((next.save(), next.configured()), (Ok(saved.clone()), &configured()[..]));
+    assert_eq!((next.parts(), next.elected()), (bsr.parts(), bsr.elected()));
+    next.run_to(&mut router, 1005, || 7, |_, _| ()).unwrap();
+    let two = bootstrap(HEAD, &wide(3, &[(FIRST, 150)]));
+    assert_eq!(hear(&mut next, &mut router, two).0, DONE);
+    assert_eq!(rp(&router, [239, 9, 9, 9]), Some(address(FIRST)));
+    let refused = |bytes: &[u8]| Bsr::restore(bytes).err();
+    assert_eq!(refused(&saved[..3]), Some(Error::Refused(Refusal::CutShort)));
+    assert_eq!(refused(&saved[1..]), Some(Error::Refused(Refusal::NotOurs)));
+    assert_eq!(refused(&saved[..9]), Some(Error::Refused(Refusal::Damaged)));
+}
+
 /// All three RPs are learned, by two fragments, the second 5 ms after the first.
 fn learned() -> (Bsr, Router) {
     let (mut bsr, mut router) = (listener(100), router());

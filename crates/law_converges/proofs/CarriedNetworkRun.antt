@@ -26,7 +26,7 @@ pub nearer_ready : IsReady 0 before
 unfolding station_at
 nearer_ready = ready_by before 0 (1 ∷ 2 ∷ []) nearer_config nearer_before nearer_accepted refl
 
-farther_ready : IsReady 1 before
+pub farther_ready : IsReady 1 before
 unfolding station_at
 farther_ready = ready_by before 1 (1 ∷ 2 ∷ 4 ∷ 5 ∷ []) farther_config farther_before farther_accepted refl
 
@@ -61,7 +61,7 @@ high_passes : carries_test soon soon started traffic 2 (routers (high_lan).link)
 unfolding machine_on_literals join_packet
 high_passes = refl
 
-carried : (link : ℕ) (members : List Member) → carries_test soon soon started traffic link members none_came before moves ≡ true
+pub carried : (link : ℕ) (members : List Member) → carries_test soon soon started traffic link members none_came before moves ≡ true
     → IsCarried soon soon started traffic none_came link members 0 before moves
 carried link members e = record {
   timely = lit≤ tt;
@@ -133,7 +133,7 @@ single_low = single_so (routers (low_lan).link) refl
 single_high : (x y : Member) → IsOne (routers (high_lan).link) x → IsOne (routers (high_lan).link) y → x.router ≡ y.router → x ≡ y
 single_high = single_so (routers (high_lan).link) refl
 
-low_quiet : LanIsQuiet soon soon bound started traffic none_came before moves low_lan
+pub low_quiet : LanIsQuiet soon soon bound started traffic none_came before moves low_lan
 low_quiet = record {
   carried = carried 1 (routers (low_lan).link) low_passes;
   single = single_low;
@@ -155,11 +155,11 @@ high_asks : ask_keeps soon bound started ((high_lan).link).settings ((high_lan).
 unfolding machine_on_literals join_packet
 high_asks = refl
 
-rp_joined : IsJoin star asked_group
+pub rp_joined : IsJoin star asked_group
 unfolding machine_on_literals
 rp_joined = record { multicast = refl; goes_far = refl; rp_host = refl }
 
-abbrev on_high : JoinOver → Joining
+abbrev pub on_high : JoinOver → Joining
 on_high j = joining_on high_lan j
 
 nearer_addressed : is_addressed soon bound started (on_high nearer_joins) ≡ true
@@ -247,7 +247,7 @@ wish_quiet = record {
   keeps = all_kept traffic 2 its_wish its_wire before moves wish_passes;
 }
 
-high_quiet : LanIsQuiet soon soon bound started traffic none_came before moves high_lan
+pub high_quiet : LanIsQuiet soon soon bound started traffic none_came before moves high_lan
 high_quiet = record {
   carried = carried 2 (routers (high_lan).link) high_passes;
   single = single_high;
@@ -277,14 +277,14 @@ unlost_passes : unlost_test soon bound started (on_high nearer_joins) before mov
 unfolding machine_on_literals join_packet
 unlost_passes = refl
 
-together_passes : together_test lag started (λ q r. refl) before moves ≡ true
+pub together_passes : together_test lag started (λ q r. refl) before moves ≡ true
 unfolding machine_on_literals join_packet
 together_passes = refl
 
 nearer_joins_quiet : JoinIsQuiet soon bound started traffic before moves high_lan nearer_joins
 nearer_joins_quiet = (high_quiet).joins.0
 
-way_quiet : WayIsQuiet soon lag bound started traffic (low_lan ∷ high_lan ∷ []) before moves way
+pub way_quiet : WayIsQuiet soon lag bound started traffic (low_lan ∷ high_lan ∷ []) before moves way
 way_quiet = record {
   addresses = rp_joined;
   hops = (

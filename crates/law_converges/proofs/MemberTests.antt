@@ -1,10 +1,10 @@
 -- Whether a link with a member is open to it, and nobody else sends there: tests, and that where they pass it is so.
-use Rattle.std.{proofs.Common.{◌≡◌, ◌∙◌, ℕ, zero, suc, ◌+◌, ◌==◌, nat_lt, not, ◌&&◌, ◌||◌, Bool, true, false, List, [], ◌∷◌, inl, inr, Option, Some, None, is_none, refl, sym, subst, arith, eqb-true, eq-eqb}, specs.{Option.option_map_or, Prelude.slice_get}}
+use Rattle.std.{proofs.Common.{◌≡◌, ◌∙◌, ℕ, zero, suc, ◌+◌, ◌==◌, nat_lt, not, ◌&&◌, ◌||◌, Bool, true, false, List, [], ◌∷◌, inl, inr, Option, Some, None, refl, sym, subst, arith, eqb-true, eq-eqb}, specs.{Option.option_map_or, Prelude.slice_get}}
 use Rattle.pim_ip.{specs.Ipv4.Packet}
 use Rattle.pim_types.{specs.declared.event.Event.Event}
 use Rattle.pim_model.{specs.{Cause.{done_as, packet_in}, Desires.join_desired, Full.source_is_full, Network.{At, Deliver, DeliverUnicast, Move, Network, Station, station_at}, Receivers.{local_receiver_exclude, local_receiver_include, local_receiver_star}, Sets.{assert_source, assert_star, is_loser, joins, joins_star, spt_bit}, State.{iface_count, is_own}, Tables.same_option, Unicast.{is_connected, is_rpf_interface, is_rpf_interface_rp, rpf_interface}}}
 use Rattle.law_streams.{specs.Copies.happens}
-use Rattle.law_converges.{specs.{AloneOnLink.{AreMembers, HasNoHosts, IsMemberAt, IsUnjoined, TakesOn}, LinkDr.Member, MemberLinks.{HasNotLost, ReachesHosts}, SilentRouters.IsOnlyWayIn}, proofs.{Tested.{Found, each_found, found, if_so, lt_so, off_so, then}, WayTests.{one_on, one_on_so}}}
+use Rattle.law_converges.{specs.{AloneOnLink.{AreMembers, HasNoHosts, IsMemberAt, IsUnjoined, TakesOn}, LinkDr.Member, MemberLinks.{HasNotLost, ReachesHosts}, SilentRouters.IsOnlyWayIn}, proofs.{Tested.{Found, both_true, each_found, found, if_so, lt_so, off_so, then}, WayTests.{one_on, one_on_so}}}
 
 -- ---- who is on a link
 
@@ -195,23 +195,31 @@ module _ (g src : ℕ) (x : Member) where
 
 -- ---- a move
 
--- an event of its own brings a router no packet
-abbrev pub inside_test : ℕ → Network → Move → Network → Bool
-inside_test r n (At q e) next =
-    not (q == r) || option_map_or (λ (st : Station). is_none (packet_in (done_as (happens st.state e)))) (station_at n q) true
-inside_test r n (Deliver q i k draw) next = true
-inside_test r n (DeliverUnicast q k draw) next = true
+module _ (g src : ℕ) where
+  -- no packet of the source
+  abbrev none_of_it : Option Packet → Bool
+  none_of_it o = option_map_or (λ (p : Packet). not ((p.destination == g) && (p.source == src))) o true
 
-pub inside_so : (r : ℕ) (n : Network) (m : Move) (next : Network) → inside_test r n m next ≡ true → (e : Event) (st : Station) (p : Packet) → m ≡ At r e
-    → station_at n r ≡ Some st → packet_in (done_as (happens st.state e)) ≡ Some p → ⊥
-inside_so r n m next passed e st p is at brought = go (subst (λ (w : Move). inside_test r n w next ≡ true) is passed)
-  where
-    none : (o : Option Packet) → is_none o ≡ true → o ≡ Some p → ⊥
-    none None e f = cc f
-    none (Some q) e f = cc e
+  -- an event of its own brings a router none
+  abbrev pub inside_test : ℕ → Network → Move → Network → Bool
+  inside_test r n (At q e) next =
+      not (q == r) || option_map_or (λ (st : Station). none_of_it (packet_in (done_as (happens st.state e)))) (station_at n q) true
+  inside_test r n (Deliver q i k draw) next = true
+  inside_test r n (DeliverUnicast q k draw) next = true
 
-    go : (not (r == r) || option_map_or (λ (st : Station). is_none (packet_in (done_as (happens st.state e)))) (station_at n r) true) ≡ true → ⊥
-    go h =
-        none (packet_in (done_as (happens st.state e)))
-        (each_found (λ (st : Station). is_none (packet_in (done_as (happens st.state e)))) (station_at n r) st
-        (if_so (r == r) _ h (eq-eqb r r refl)) at) brought
+  pub inside_so : (r : ℕ) (n : Network) (m : Move) (next : Network) → inside_test r n m next ≡ true → (e : Event) (st : Station) (p : Packet)
+      → m ≡ At r e → station_at n r ≡ Some st → packet_in (done_as (happens st.state e)) ≡ Some p → p.destination ≡ g → p.source ≡ src → ⊥
+  inside_so r n m next passed e st p is at brought group source = go (subst (λ (w : Move). inside_test r n w next ≡ true) is passed)
+    where
+      contradicts : (b : Bool) → b ≡ true → b ≡ false → ⊥
+      contradicts b e f = cc (sym e ∙ f)
+
+      both : ((p.destination == g) && (p.source == src)) ≡ true
+      both = both_true (eq-eqb p.destination g group) (eq-eqb p.source src source)
+
+      go : (not (r == r) || option_map_or (λ (st : Station). none_of_it (packet_in (done_as (happens st.state e)))) (station_at n r) true) ≡ true → ⊥
+      go h =
+          contradicts ((p.destination == g) && (p.source == src)) both
+          (off_so _ (each_found (λ (p : Packet). not ((p.destination == g) && (p.source == src))) (packet_in (done_as (happens st.state e))) p
+          (each_found (λ (st : Station). none_of_it (packet_in (done_as (happens st.state e)))) (station_at n r) st
+          (if_so (r == r) _ h (eq-eqb r r refl)) at) brought))

@@ -4,11 +4,11 @@
 use Rattle.std.{specs.Prelude.{List, Some, [], true, if◌then◌else◌, length, nat_le, ℕ, ◌++◌, ◌==◌, ◌||◌, ◌∷◌, ◌≡◌}}
 use Rattle.pim_ip.{specs.{Addr.addr, Ipv4.{all_pim_routers, header_text, igmp_packet_text, pim_packet_text}}}
 use Rattle.pim_types.{specs.declared.{config.Config.Config, event.Event.Event, fact.AssertMetric.AssertMetric}}
-use Rattle.pim_wire.{specs.{JoinPrunes.join_prune_text, declared.join_prune.EntryKind.EntryKind}}
+use Rattle.pim_wire.{specs.{JoinPrunes.join_prune_text, Registers.register_text, declared.join_prune.EntryKind.EntryKind}}
 use Rattle.igmp_wire.{specs.Reports.report_text}
 use Rattle.pim_model.{specs.{Messages.entry, Network.{At, Deliver, DeliverUnicast, Move, Network, Sent, frame_at, network_ran}, Sets.metric_of, Tables.hop_at}}
 use Rattle.law_streams.{specs.{InTimeJoins.{Always, Join, Star}, Joins.join_packet}}
-use Rattle.pim_runs.{specs.{Base.{base, interface, route_by, rp, rp_network}, InTime.started, ServedChain.{asked_group, content, hello_from, station}, Words.{address, advance, frame, up}}}
+use Rattle.pim_runs.{specs.{Base.{base, interface, route_by, rp, rp_network}, InTime.started, ServedChain.{asked_group, content, hello_from, station}, Words.{address, advance, frame, unicast, up}}}
 use Rattle.law_converges.{specs.{Carried.{Arrivals, Traffic}, CarriedNetwork.{Claim, IsQuietPlan, JoinOver, Lan, Plan, WayOver, layout_of}, CarriedPrunes.{Wish, wire_of}, LinkAsserts.assert_packet, LinkDr.Member, LinkMembersRun.wish as host_wish, LinkQuerierRun.settings, LinkRpt.override_packet, LinkRptOrder.{AreInOrder, IsUnpruned, Wire}, Settles.HasSettled}}
 
 -- ---- the routers
@@ -114,16 +114,28 @@ settling =
     ++ all_to 272500 ++ (Deliver 1 1 16 7 ∷ Deliver 2 0 16 7 ∷ [])
     ++ all_to 281250
     ++ (Deliver 1 0 17 7 ∷ Deliver 1 1 18 7 ∷ Deliver 2 0 18 7 ∷ Deliver 0 0 19 7 ∷ Deliver 0 1 20 7 ∷ Deliver 2 0 20 7 ∷ Deliver 0 1 23 7
-    ∷ Deliver 1 1 23 7 ∷ At 0 (answer_on 0 (address 10 0 1 9)) ∷ At 1 (answer_on 0 (address 10 0 1 9)) ∷ [])
+    ∷ Deliver 1 1 23 7 ∷ At 0 (answer_on 0 (address 10 0 1 9)) ∷ At 1 (answer_on 0 (address 10 0 1 9))
+    ∷ At 1 (answer_on 2 (address 10 0 4 9)) ∷ [])
     ++ all_to 281451
 
 -- Then the source sends another packet. The second router's Register brings it to the RP, which sends it on the second LAN, and the first
--- router on the first one.
+-- router on the first one. A Register of another router brings the RP a packet of a source far away, which the second router sends to its
+-- host, too.
 abbrev pub by_register : Move
 by_register = DeliverUnicast 2 25 7
 
+abbrev pub far_source : ℕ
+far_source = address 10 8 0 9
+
+abbrev pub far_register : List ℕ
+far_register =
+    pim_packet_text 16 (address 10 8 0 1) rp
+    (register_text (header_text [] 15 17 far_source asked_group (length content) ++ content))
+
 abbrev pub serving : List Move
-serving = Deliver 0 1 26 7 ∷ Deliver 1 1 26 7 ∷ Deliver 1 0 27 7 ∷ all_to 281552
+serving =
+    Deliver 0 1 26 7 ∷ Deliver 1 1 26 7 ∷ Deliver 1 0 27 7 ∷ all_to 281552
+    ++ (At 2 (unicast far_register) ∷ Deliver 0 1 28 7 ∷ Deliver 1 1 28 7 ∷ Deliver 1 0 29 7 ∷ all_to 281653)
 
 abbrev pub moves : List Move
 moves = settling ++ At 1 source_sends ∷ by_register ∷ serving
@@ -132,9 +144,9 @@ moves = settling ++ At 1 source_sends ∷ by_register ∷ serving
 abbrev pub traffic : Traffic
 traffic = record {
   sent = λ k. if nat_le k 3 then 268000 else if nat_le k 5 then 270008 else if nat_le k 12 then 271001 else if nat_le k 15 then 271500
-      else if nat_le k 16 then 272500 else if nat_le k 23 then 281250 else 281451;
-  by = λ k. if (k == 12) || ((k == 23) || (k == 26)) then 2
-      else if (k == 1) || (k == 3) || (k == 6) || (k == 7) || (k == 8) || (k == 16) || (k == 17) || ((k == 18) || (k == 27)) then 0 else 1;
+      else if nat_le k 16 then 272500 else if nat_le k 23 then 281250 else if nat_le k 27 then 281451 else 281552;
+  by = λ k. if (k == 12) || ((k == 23) || ((k == 26) || (k == 28))) then 2
+      else if (k == 1) || (k == 3) || (k == 6) || (k == 7) || (k == 8) || (k == 16) || (k == 17) || ((k == 18) || ((k == 27) || (k == 29))) then 0 else 1;
 }
 
 abbrev pub none_came : Arrivals

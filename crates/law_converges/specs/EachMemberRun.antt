@@ -1,13 +1,17 @@
--- The host's LAN of the two by the routes of the router that serves it, and not by a way that is given. Computed by the kernel.
+-- The two receivers by the routes of the routers that serve them, and not by ways that are given. Computed by the kernel.
 use Rattle.std.{specs.Prelude.[]}
 use Rattle.pim_runs.{specs.{Base.rp, InTime.started, ServedChain.asked_group}}
-use Rattle.law_converges.{specs.{CarriedNetworkRun.{before, bound, lag, low_lan, moves, nearer_on_low, plan, soon, source_there, traffic}, CarriedWaysRun.its_hop, EachMember.{IsReached, IsServed}, RoutesToRpRun.routing}}
+use Rattle.law_converges.{specs.{CarriedNetworkRun.{before, bound, far_source, lag, low_lan, moves, nearer_on_low, soon, traffic}, CarriedWaysRun.its_hop, EachMember.{IsReached, IsServed}, MemberLinksRun.{farther_on_own, other_hop, own_lan, served_plan}, RoutesToRpRun.routing}}
 
--- The winner of the assert serves the host there, and its route leads to the RP, one hop away; nothing keeps the packets from the two.
-abbrev pub LowIsReached : Type 0
-LowIsReached =
-    IsReached asked_group source_there rp soon lag bound bound 1 started plan routing before moves low_lan nearer_on_low its_hop []
+-- The winner of the assert serves the one, and the DR of the second router's own link the other; by the routes of both the RP is one hop
+-- away, and nothing keeps the packets from there.
+abbrev pub BothAreReached : Type 0
+BothAreReached =
+    IsReached asked_group far_source rp soon lag bound bound 1 started served_plan routing before moves low_lan nearer_on_low its_hop []
+    × IsReached asked_group far_source rp soon lag bound bound 1 started served_plan routing before moves own_lan farther_on_own other_hop []
 
--- So the host's LAN is served, as by the source's second packet, which the Register brings.
-abbrev pub LowIsServed : Type 0
-LowIsServed = IsServed asked_group source_there rp soon bound started traffic plan before moves low_lan nearer_on_low its_hop []
+-- So both are served, as by the packet of the source far away, which a Register brings to the RP.
+abbrev pub BothAreServed : Type 0
+BothAreServed =
+    IsServed asked_group far_source rp soon bound started traffic served_plan before moves low_lan nearer_on_low its_hop []
+    × IsServed asked_group far_source rp soon bound started traffic served_plan before moves own_lan farther_on_own other_hop []

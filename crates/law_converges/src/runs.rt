@@ -3,7 +3,7 @@ ghost use Rattle.law_converges.specs.AloneByAssertRun.{WinnerAloneOnPlan};
 ghost use Rattle.law_converges.specs.CarriedNetworkRun.{OverrideComesInOrder, PlanIsQuiet, PlanSettles, PruneHasNoEffect};
 ghost use Rattle.law_converges.specs.CarriedWaysRun.{PlanBringsNothingElse, PlanIsOpen, PlanServesOnce};
 ghost use Rattle.law_converges.specs.ComesOnceRun.{ChainForwards, ChainServesOnce};
-ghost use Rattle.law_converges.specs.EachMemberRun.{LowIsReached, LowIsServed};
+ghost use Rattle.law_converges.specs.EachMemberRun.{BothAreReached, BothAreServed};
 ghost use Rattle.law_converges.specs.JoinedWaysRun.{ChainComesInTime, ChainComesToBeJoined, ChainPassesOnce};
 ghost use Rattle.law_converges.specs.LeftGroupRun.{SilentGroupEnds};
 ghost use Rattle.law_converges.specs.LinkAssertsRun.{FartherLoses, NearerAnswers};
@@ -12,7 +12,7 @@ ghost use Rattle.law_converges.specs.LinkJoinsRun.{BothComeToBeHeld, BothJoinInT
 ghost use Rattle.law_converges.specs.LinkLosersRun.{FartherComesToLose, FartherStaysLoser, NearerAssertsInTime};
 ghost use Rattle.law_converges.specs.LinkMembersRun.{HostAnswersInTime, HostComesToBeKnown, HostStaysKnown};
 ghost use Rattle.law_converges.specs.LinkQuerierRun.{OneComesToQuery, QueriesComeInTime};
-ghost use Rattle.law_converges.specs.MemberLinksRun.{LowBringsNothingElse, LowHasNoOthers, LowIsOpen, LowIsServedOnce, LowIsWanted};
+ghost use Rattle.law_converges.specs.MemberLinksRun.{BothAreOpen, BothAreServedOnce, BothAreWanted, NoOthersSend, NothingElseComesToBoth, ServedPlanIsQuiet};
 ghost use Rattle.law_converges.specs.OneSenderRun.{FartherSendsNone};
 ghost use Rattle.law_converges.specs.NextHopRun.{OtherTakesOver, RouterTurns};
 ghost use Rattle.law_converges.specs.RoutesToRpRun.{FartherIsHeldToRp, FartherWayIsQuiet, NearerIsServedOnce, RoutesLeadOnPlan};
@@ -195,37 +195,43 @@ pub fn winner_alone_on_plan()
     ensures { WinnerAloneOnPlan }
 {}
 
-/// The host's LAN of the two is served by the winner of the assert, whose next hop, the RP, holds the group from the bound on.
-pub fn low_is_open()
-    ensures { LowIsOpen }
+/// With the second router's own link, on which a host asks it, too, all is as quiet.
+pub fn served_plan_is_quiet()
+    ensures { ServedPlanIsQuiet }
 {}
 
-/// So the winner wants the group.
-pub fn low_is_wanted()
-    ensures { LowIsWanted }
+/// The first LAN is served by the winner of the assert, and that link by its DR; the RP, which is the next hop of both, holds the
+/// group from the bound on.
+pub fn both_are_open()
+    ensures { BothAreOpen }
 {}
 
-/// So each packet that comes to the RP is on the host's LAN once.
-pub fn low_is_served_once()
-    ensures { LowIsServedOnce }
+/// So both routers want the group.
+pub fn both_are_wanted()
+    ensures { BothAreWanted }
 {}
 
-/// The loser of the assert isn't asked on the host's LAN, nor either of the two on the RP's LAN.
-pub fn low_has_no_others()
-    ensures { LowHasNoOthers }
+/// So each packet of the source far away that comes to the RP is on each of both links once.
+pub fn both_are_served_once()
+    ensures { BothAreServedOnce }
 {}
 
-/// So nothing else of the source comes to the host's LAN.
-pub fn low_brings_nothing_else()
-    ensures { LowBringsNothingElse }
+/// The loser of the assert isn't asked on the first LAN, nor either of both on the RP's LAN, which is their only way in.
+pub fn no_others_send()
+    ensures { NoOthersSend }
 {}
 
-/// By its routes the RP is the next hop of the router that serves the host's LAN, and nothing keeps the packets from the two.
-pub fn low_is_reached()
-    ensures { LowIsReached }
+/// So nothing else of the source comes to either.
+pub fn nothing_else_comes_to_both()
+    ensures { NothingElseComesToBoth }
 {}
 
-/// So the host's LAN is served without a way that is given.
-pub fn low_is_served()
-    ensures { LowIsServed }
+/// By their routes the RP is the next hop of both routers that serve a receiver, and nothing keeps the packets from there.
+pub fn both_are_reached()
+    ensures { BothAreReached }
+{}
+
+/// So both receivers are served without ways that are given.
+pub fn both_are_served()
+    ensures { BothAreServed }
 {}

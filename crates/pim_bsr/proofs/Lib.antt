@@ -1,3 +1,4 @@
+pub mod Apart
 mod Counts
 pub mod Accepted
 pub mod JoinedLaws
@@ -8,3 +9,5 @@ pub mod Ranges
 mod Same
 pub mod Sounder
 pub mod Told
+pub mod Restored
+pub mod Spelled

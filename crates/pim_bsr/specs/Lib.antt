@@ -2,6 +2,12 @@ pub mod Choice
 pub mod Hearing
 pub mod Joined
 pub mod Laws
+pub mod Reading
+pub mod Refused
 pub mod Runs
+pub mod Saved
+pub mod SavedRuns
 pub mod Sound
 pub mod Table
+pub mod Text
+pub mod Views

@@ -27,7 +27,7 @@ pub(crate) fn is_given(configured: &[RpRange], rps: &[Learned], learned: Learned
 }
 
 /// The range of an RP.
-fn range_of(learned: Learned) -> RpRange
+pub(crate) fn range_of(learned: Learned) -> RpRange
     ensures { result ≡ range_of learned }
 {
     RpRange {
@@ -63,7 +63,7 @@ fn same_range(first: RpRange, second: RpRange) -> bool
 
 /// Whether a list has a range.
 #[tactic(auto, unfolding(crate::specs::Table::has_range))]
-fn has_range(ranges: &[RpRange], range: RpRange) -> bool
+pub(crate) fn has_range(ranges: &[RpRange], range: RpRange) -> bool
     ensures { result ≡ has_range ranges.now range }
 {
     ranges.iter().any(|other| same_range(range, *other))

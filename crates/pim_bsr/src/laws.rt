@@ -1,6 +1,8 @@
 //! Laws of the definitions, each the contract of a function with nothing to do.
 ghost use Rattle.pim_bsr.specs.Laws.{CameFromRpf, JoinedIsRun, LastsItsTime, OtherRangesStay, SameEverywhere, SentOnOnce, StaticAlone, StaticFirst, TimeInSteps, WasPreferred, WithoutMessageNothingChanges, WithoutSettingNothingChanges};
 ghost use Rattle.pim_bsr.specs.Runs.{AsHeard, AsLeft, AsPrinted, AsWorked, BsrsAreApart, MaskIsOfAll};
+ghost use Rattle.pim_bsr.specs.Saved.{KnownReadingIsText, KnownTextIsRead, RestoredIsSound, SavedIsRestored};
+ghost use Rattle.pim_bsr.specs.SavedRuns.{SavedListenerHasBytes, TwiceIsRefused};
 ghost use Rattle.pim_bsr.specs.Sound.{GivenIsAccepted, SoundConfigured, SoundInTime, SoundStays, SoundWhateverComes};
 
 /// Before the first message the router has the configured ranges alone.
@@ -134,4 +136,40 @@ pub fn mask_is_of_all()
 #[tactic(auto, unfolding(crate::specs::Hearing::heard, crate::specs::Hearing::why_not, crate::specs::Hearing::why_sender, crate::specs::Hearing::sent_on, crate::specs::Hearing::is_sent_on, crate::specs::Table::is_preferred, crate::specs::Table::kept_count, crate::specs::Table::same_ranges, crate::specs::Table::has_range, crate::specs::Laws::AllLeave, crate::specs::Laws::all_after, crate::specs::Hearing::after_message, crate::specs::Table::at_time, crate::specs::Table::configured, crate::specs::Table::given_of, crate::specs::Table::is_configured, crate::specs::Table::parts_after, crate::specs::Table::with_message, crate::specs::Table::with_range, crate::specs::Table::with_ranges, crate::specs::Choice::hash_value, crate::specs::Choice::is_better, crate::specs::Choice::is_chosen, crate::specs::Choice::masked, crate::specs::Choice::range_value))]
 pub fn as_left()
     ensures { AsLeft }
+{}
+
+/// The text of what is known is read as this.
+#[tactic(auto, using(crate::proofs::Spelled::known_text_is_read))]
+pub fn known_text_is_read()
+    ensures { KnownTextIsRead }
+{}
+
+/// What is read has the bytes as its one text.
+#[tactic(auto, using(crate::proofs::Spelled::known_reading_is_text))]
+pub fn known_reading_is_text()
+    ensures { KnownReadingIsText }
+{}
+
+/// A listener that is made of saved bytes knows what was known.
+#[tactic(auto, using(crate::proofs::Restored::saved_is_restored))]
+pub fn saved_is_restored()
+    ensures { SavedIsRestored }
+{}
+
+/// Whatever bytes a listener is made of, what it knows is sound.
+#[tactic(auto, using(crate::proofs::Restored::restored_is_sound))]
+pub fn restored_is_sound()
+    ensures { RestoredIsSound }
+{}
+
+/// A worked run: the bytes of what a listener knows.
+#[tactic(auto, unfolding(pim_saved::specs::Crc::entry, pim_saved::specs::Crc::shifted, pim_saved::specs::Crc::with_byte, pim_saved::specs::Reading::items_at, pim_saved::specs::Reading::prefix_at, pim_saved::specs::Reading::range_at, pim_saved::specs::Reading::undamaged, pim_saved::specs::Text::prefix_text, pim_saved::specs::Text::range_text, pim_ip::specs::Prefixes::is_host_clear, pim_model::specs::Limits::is_rp_range, crate::specs::Text::learned_text, crate::specs::Text::candidate_text, crate::specs::Text::part_text, crate::specs::Text::elected_text, crate::specs::Text::election_text, crate::specs::Text::configured_text, crate::specs::Text::table_text, crate::specs::Text::said_text, crate::specs::Text::last_text, crate::specs::Text::body_text, crate::specs::Text::front_text, crate::specs::Text::known_text, crate::specs::Reading::learned_at, crate::specs::Reading::candidate_at, crate::specs::Reading::part_at, crate::specs::Reading::elected_at, crate::specs::Reading::election_at, crate::specs::Reading::configured_at, crate::specs::Reading::table_at, crate::specs::Reading::said_at, crate::specs::Reading::last_at, crate::specs::Reading::parts_at, crate::specs::Reading::known_reading, crate::specs::Reading::is_sound, crate::specs::Reading::restored, crate::specs::Sound::are_apart, crate::specs::Table::kept_count))]
+pub fn saved_listener_has_bytes()
+    ensures { SavedListenerHasBytes }
+{}
+
+/// A worked run: an RP that stands twice.
+#[tactic(auto, unfolding(pim_saved::specs::Crc::entry, pim_saved::specs::Crc::shifted, pim_saved::specs::Crc::with_byte, pim_saved::specs::Reading::items_at, pim_saved::specs::Reading::prefix_at, pim_saved::specs::Reading::range_at, pim_saved::specs::Reading::undamaged, pim_saved::specs::Text::prefix_text, pim_saved::specs::Text::range_text, pim_ip::specs::Prefixes::is_host_clear, pim_model::specs::Limits::is_rp_range, crate::specs::Text::learned_text, crate::specs::Text::candidate_text, crate::specs::Text::part_text, crate::specs::Text::elected_text, crate::specs::Text::election_text, crate::specs::Text::configured_text, crate::specs::Text::table_text, crate::specs::Text::said_text, crate::specs::Text::last_text, crate::specs::Text::body_text, crate::specs::Text::front_text, crate::specs::Text::known_text, crate::specs::Reading::learned_at, crate::specs::Reading::candidate_at, crate::specs::Reading::part_at, crate::specs::Reading::elected_at, crate::specs::Reading::election_at, crate::specs::Reading::configured_at, crate::specs::Reading::table_at, crate::specs::Reading::said_at, crate::specs::Reading::last_at, crate::specs::Reading::parts_at, crate::specs::Reading::known_reading, crate::specs::Reading::is_sound, crate::specs::Reading::restored, crate::specs::Sound::are_apart, crate::specs::Table::kept_count))]
+pub fn twice_is_refused()
+    ensures { TwiceIsRefused }
 {}

@@ -9,10 +9,15 @@ pub mod heard;
 pub mod laws;
 pub mod learned;
 pub mod listener;
+mod reading;
+pub mod refusal;
+mod saved;
+mod sound;
 pub mod surroundings;
 mod table;
 
 pub use heard::{Heard, Why};
 pub use learned::{Elected, Learned, Part};
 pub use listener::{Listener, MOST_RPS};
+pub use refusal::ListenerRefusal;
 pub use surroundings::Surroundings;

@@ -5,6 +5,7 @@ ghost use Rattle.pim_bsr.specs.Joined.{first_end, is_due};
 ghost use Rattle.pim_bsr.specs.Table.{at_time, configured, elected_at, given, given_of, is_given, room_beside, runs, same_ranges};
 
 mod hear;
+mod saved;
 
 use crate::given::{first_end, given_of, is_given, moves};
 use crate::learned::{Elected, Learned, Part};
@@ -30,8 +31,9 @@ pub const MOST_RPS: usize = 256;
 /// - Other configured ranges: the router takes `Rps` with [`Listener::given_beside`] them; where it is done,
 ///   [`Listener::configure`] takes them. A reload gives the router a configuration whose ranges are
 ///   [`Listener::given_beside`] the new ones, and then [`Listener::configure`] takes these.
-/// - To be saved with the router are [`Listener::rps`], [`Listener::parts`] and [`Listener::elected`]. No call makes a
-///   listener of them yet.
+/// - [`Listener::save`] gives the bytes that are saved with the router's, and [`Listener::restore`] a listener for the router
+///   that is made of these. That router has the ranges that this listener gives it. Another configuration is then taken as
+///   above.
 /// - A listener that goes leaves the router `Rps` with the configured ranges alone. One that comes is made of the ranges that
 ///   the router has.
 #[derive(Drop)]
@@ -67,7 +69,7 @@ impl Model for Listener {
 }
 
 /// For how many RPs there is room beside configured ranges.
-fn room_beside(limit: usize, configured: &[RpRange]) -> usize
+pub(crate) fn room_beside(limit: usize, configured: &[RpRange]) -> usize
     ensures { result ≡ room_beside limit configured.now }
 {
     limit.min(MOST_RPS.saturating_sub(configured.len()))
@@ -129,6 +131,13 @@ impl Listener {
             last_end: 0,
         };
         listener
+    }
+
+    /// The configured ranges.
+    pub fn configured(&self) -> &[RpRange]
+        ensures { result.now ≡ self.now.static }
+    {
+        self.configured.as_slice()
     }
 
     /// The RPs in force.

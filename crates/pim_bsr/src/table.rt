@@ -187,6 +187,13 @@ impl Table {
         }
     }
 
+    /// A table with these.
+    pub(crate) fn of(rps: Vec<Learned>, parts: Vec<Part>) -> Table
+        ensures { result ≡ record { rps = rps.items; parts = parts.items } }
+    {
+        Table { rps, parts }
+    }
+
     /// The RPs in force.
     pub(crate) fn rps(&self) -> &[Learned]
         ensures { result.now ≡ self.now.rps }

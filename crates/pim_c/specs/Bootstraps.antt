@@ -1,12 +1,12 @@
 -- What a call does to the handle of a listener for Bootstraps (RFC 5059), and to that of a router, and answers.
-use Rattle.std.{specs.{Option.option_map_or, Prelude.{[], Bool, List, None, Option, Some, false, if◌then◌else◌, nat_le, not, option_and_then, true, ℕ, ◌&&◌, ◌==◌, ◌≡◌, ◌⊎◌}}}
+use Rattle.std.{specs.{Option.option_map_or, Prelude.{[], Bool, Err, List, None, Ok, Option, Result, Some, false, if◌then◌else◌, length, nat_le, not, option_and_then, true, ℕ, ◌&&◌, ◌==◌, ◌≡◌, ◌⊎◌}}}
 use Rattle.pim_ip.{specs.{Fault.fault_number, Refusal.refusal_number, declared.refusal.Refusal.Refusal}}
 use Rattle.pim_types.{specs.declared.{config.RpRange.RpRange, event.EventKind.EventKind, outcome.Ignored.Ignored}}
 use Rattle.pim_model.{specs.Limits.most_rps}
-use Rattle.pim_bsr.{specs.{Hearing.{Hearing, takes_memory}, Joined.{first_end, is_due}, Table.{Known, at_time, configured, given, is_given, same_ranges}, declared.{heard.{Heard.Heard, Why.Why}, learned.{Elected.Elected, Learned.Learned, Part.Part}}}}
+use Rattle.pim_bsr.{specs.{Hearing.{Hearing, takes_memory}, Joined.{first_end, is_due}, Reading.restored, Refused.listener_refusal_number, Table.{Known, at_time, configured, given, is_given, same_ranges}, Text.known_text, declared.{heard.{Heard.Heard, Why.Why}, learned.{Elected.Elected, Learned.Learned, Part.Part}, refusal.ListenerRefusal.ListenerRefusal}}}
 use Rattle.pim_router.{specs.Standing.Standing}
 use Rattle.pim_session.{specs.{Heard.heard_at, Session.ShownSession, Untaken.has_untaken, declared.stop.Stop.Stop}}
-use Rattle.pim_c.{specs.{Called.Copied, Given.given_event, Returned.ignored_number, declared.learned.{CElected.CElected, LearnedRow.LearnedRow, PartRow.PartRow}}}
+use Rattle.pim_c.{specs.{Called.Copied, Given.given_event, Returned.{ignored_number, written_into}, Written.{NoBytesWritten, Untouched}, declared.{given.GivenRange.GivenRange, learned.{CElected.CElected, LearnedRow.LearnedRow, PartRow.PartRow}}}}
 
 -- ---- numbers
 
@@ -64,6 +64,21 @@ abbrev pub ListenerMade : Option Known → Option ℕ → List RpRange → ℕ �
 ListenerMade old None static refresh_end answer left = (answer ≡ 54) × (left ≡ old)
 ListenerMade old (Some limit) static refresh_end answer left =
     ((answer ≡ 0) × (left ≡ Some (new_known limit static refresh_end))) ⊎ ((answer ≡ 40) × (left ≡ old))
+
+abbrev pub RestoredBy : Result Known ListenerRefusal → Option Known → ℕ → Option Known → Type 0
+RestoredBy (Ok k) old answer left = (answer ≡ 0) × (left ≡ Some k)
+RestoredBy (Err refusal) old answer left = Untouched (listener_refusal_number refusal) old answer left
+
+-- A listener was made that knows what the bytes say, or the bytes were refused, or an allocation failed.
+abbrev pub ListenerRestored : Option Known → List ℕ → ℕ → Option Known → Type 0
+ListenerRestored old bytes answer left = RestoredBy (restored bytes) old answer left ⊎ Untouched 40 old answer left
+
+-- The bytes were written, as many as fit, with their length, and a listener is restored of them; or an allocation failed.
+abbrev pub ListenerSaved : Option Known → ℕ → ℕ → ℕ → List ℕ → List ℕ → Type 0
+ListenerSaved None answer size written room filled = NoBytesWritten 56 answer size written room filled
+ListenerSaved (Some k) answer size written room filled =
+    ((answer ≡ 0) × (written ≡ length (known_text k)) × (filled ≡ written_into room (known_text k)) × (restored (known_text k) ≡ Ok k))
+    ⊎ NoBytesWritten 40 answer size written room filled
 
 -- Nothing changed.
 abbrev pub Unheard : ℕ → Known → ShownSession → ℕ → Bool → Option Known → Option ShownSession → Type 0
@@ -128,7 +143,14 @@ abbrev pub RangesSetBy : Option Known → Option ShownSession → ℕ → Option
 RangesSetBy k old draw None static answer after left = (answer ≡ 54) × (after ≡ k) × (left ≡ old)
 RangesSetBy k old draw (Some limit) static answer after left = RangesSetAt k old draw limit static answer after left
 
--- ---- what was learned
+-- ---- what is known
+
+abbrev pub static_in : Option Known → List RpRange
+static_in listener = option_map_or (λ (k : Known). k.static) listener []
+
+-- A range, as C reads it.
+abbrev pub told_range : RpRange → GivenRange
+told_range r = record { prefix = r.prefix.address.bits; length = r.prefix.length; rp = r.rp.bits }
 
 abbrev pub elected_in : Option Known → Option Elected
 elected_in listener = option_and_then (λ (k : Known). k.elected) listener

@@ -1,6 +1,6 @@
 //! The functions that C calls of a listener for Bootstraps (RFC 5059). Each takes the listener out of its handle, calls
 //! it, and puts it back; in which order a program calls them says `pim_bsr::Listener`.
-ghost use Rattle.pim_c.specs.Bootstraps.{GivenTo, HeardBy, ListenerMade, PassedBy, RangesSet, RangesSetBy, elected_in, elected_of, first_end_in, learned_row_in, limit_of, part_row_of, parts_in, rps_in};
+ghost use Rattle.pim_c.specs.Bootstraps.{GivenTo, HeardBy, ListenerMade, ListenerRestored, ListenerSaved, PassedBy, RangesSet, RangesSetBy, elected_in, elected_of, first_end_in, learned_row_in, limit_of, part_row_of, parts_in, rps_in, static_in, told_range};
 ghost use Rattle.pim_c.specs.Given.{given_event, range_of};
 ghost use Rattle.pim_c.specs.Returned.{never};
 ghost use Rattle.pim_c.specs.Written.{ValueWritten};
@@ -12,7 +12,7 @@ use crate::given::{self, GivenRange};
 use crate::handle::Handle;
 use crate::learned::{self, CElected, LearnedRow, PartRow};
 use crate::listening::{self, ListenerHandle};
-use crate::returned::{DONE, MEMORY, NEVER, NO_LISTENER, NO_ROUTER, NO_SETTING};
+use crate::returned::{self, DONE, MEMORY, NEVER, NO_LISTENER, NO_ROUTER, NO_SETTING};
 use pim_bsr::Listener;
 use pim_intake::LentEvent;
 use pim_types::{Event, EventKind, IfaceId, RpRange, Series};
@@ -39,6 +39,50 @@ pub extern "C" fn viq_core_bsr_new(
     };
     let made = Listener::new(alloc, limit, ranges.into_vec(), refresh_end);
     listener.renew(alloc, made)
+}
+
+/// Makes a listener of saved bytes, which knows what was known. If the handle had a listener and the new one is made, the
+/// old one is freed.
+#[unsafe(no_mangle)]
+pub extern "C" fn viq_core_bsr_restore(
+    alloc: Global,
+    listener: &mut ListenerHandle,
+    bytes: &[u8],
+) -> u32
+    ensures { ListenerRestored listener.old.place.inside bytes.now result listener.new.place.inside }
+{
+    match Listener::restore(alloc, bytes) {
+        Ok(Ok(made)) => listener.renew(alloc, made),
+        Ok(Err(refusal)) => u32::from(refusal.number()),
+        Err(_) => MEMORY,
+    }
+}
+
+/// Saves what a listener knows: as many of its bytes as the buffer holds are written into it, and how many there are.
+#[unsafe(no_mangle)]
+pub extern "C" fn viq_core_bsr_save(
+    alloc: Global,
+    listener: &mut ListenerHandle,
+    room: &mut [u8],
+    size: &mut usize,
+) -> u32
+    ensures written { ListenerSaved listener.old.place.inside result size.old size.new room.old room.new }
+    ensures stays { listener.new.place.inside ≡ listener.old.place.inside }
+{
+    let Some(hearing) = listener.take(alloc) else {
+        return NO_LISTENER;
+    };
+    let mut bytes = Vec::new(alloc);
+    let answer = hearing.save(&mut bytes);
+    listener.put(hearing);
+    match answer {
+        Ok(()) => {
+            *size = bytes.len();
+            returned::write(room, bytes.as_slice());
+            DONE
+        }
+        Err(_) => MEMORY,
+    }
 }
 
 /// Frees a listener with its memory. The handle then has none.
@@ -207,6 +251,39 @@ pub extern "C" fn viq_core_bsr_ranges(
     let answer = set_ranges(alloc, hearing.as_mut(), router, draw, limit, ranges);
     listener.put(hearing);
     answer
+}
+
+/// How many ranges are configured.
+#[unsafe(no_mangle)]
+pub extern "C" fn viq_core_bsr_configured(alloc: Global, listener: &mut ListenerHandle) -> usize
+    ensures count { result ≡ length (static_in listener.old.place.inside) }
+    ensures stays { listener.new.place.inside ≡ listener.old.place.inside }
+{
+    let Some(hearing) = listener.take(alloc) else {
+        return 0;
+    };
+    let count = hearing.configured().len();
+    listener.put(hearing);
+    count
+}
+
+/// One of the configured ranges, counted from 0. False where there is none of this number.
+#[unsafe(no_mangle)]
+pub extern "C" fn viq_core_bsr_range(
+    alloc: Global,
+    listener: &mut ListenerHandle,
+    index: usize,
+    range: &mut GivenRange,
+) -> bool
+    ensures written { ValueWritten told_range (slice_get (static_in listener.old.place.inside) index) result range.old range.new }
+    ensures stays { listener.new.place.inside ≡ listener.old.place.inside }
+{
+    let Some(hearing) = listener.take(alloc) else {
+        return false;
+    };
+    let is_there = learned::write_range(hearing.configured(), index, range);
+    listener.put(hearing);
+    is_there
 }
 
 /// The elected BSR. False where none is elected.

@@ -1,10 +1,12 @@
 //! What a listener learned of Bootstraps, as C reads it.
-ghost use Rattle.pim_c.specs.Bootstraps.{elected_of, learned_row_of, part_row_of};
+ghost use Rattle.pim_c.specs.Bootstraps.{elected_of, learned_row_of, part_row_of, told_range};
 ghost use Rattle.pim_c.specs.Written.{ValueWritten};
 ghost use Rattle.std.specs.List.{slice_get};
 ghost use Rattle.std.specs.Prelude.{◌≡◌};
 
+use crate::given::GivenRange;
 use pim_bsr::{Elected, Learned, Listener, Part};
+use pim_types::RpRange;
 
 /// The elected BSR.
 #[repr(C)]
@@ -92,6 +94,30 @@ fn part_row(part: Part) -> PartRow
         bsr: part.bsr.bits,
         tag: u32::from(part.tag),
         end: part.until,
+    }
+}
+
+// A range, as C reads it.
+fn c_range(range: RpRange) -> GivenRange
+    ensures { result ≡ told_range range }
+{
+    GivenRange {
+        prefix: range.prefix.address.bits,
+        length: range.prefix.length,
+        rp: range.rp.bits,
+    }
+}
+
+/// Writes out one of the configured ranges, if it exists.
+pub(crate) fn write_range(ranges: &[RpRange], index: usize, out: &mut GivenRange) -> bool
+    ensures { ValueWritten told_range (slice_get ranges.now index) result out.old out.new }
+{
+    match ranges.get(index) {
+        Some(range) => {
+            *out = c_range(*range);
+            true
+        }
+        None => false,
     }
 }
 

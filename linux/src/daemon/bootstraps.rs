@@ -1,12 +1,12 @@
 //! Bootstraps (RFC 5059): RPs that are learned of them, beside those of the file.
 use super::{Daemon, Event, Fatal};
 use crate::core::ranges_of;
-use crate::left::LeftRange;
+use crate::left::{Left, LeftRange};
 use crate::packet::{bsr_of, Packet};
 use crate::policy::Cause;
 use crate::settings::RpSettings;
 use crate::words;
-use log::{debug, info};
+use log::{debug, info, warn};
 use std::net::Ipv4Addr;
 use viqeshor::{Error, Heard, LearnedRp};
 
@@ -47,8 +47,23 @@ impl Daemon {
         self.core.listens().then(|| LeftRange::of(&ranges_of(&self.settings.rps)))
     }
 
-    /// The router before this one heard Bootstraps: what it learned of them stays with the library's router, until a BSR has
-    /// had the time to say it again. It answers whether that is so: the file has to have the same ranges.
+    /// What the router before this one learned of Bootstraps is known here too, where they are heard still. It answers whether
+    /// that is so: an older router left nothing of it.
+    pub(super) fn resume_listener(&mut self, left: &Left) -> bool {
+        let (limit, saved) = match (&self.settings.bsr, &left.listener) {
+            (Some(bsr), Some(saved)) => (bsr.limit, saved),
+            _ => return false,
+        };
+        let resumed = self.core.resume_listener(saved, limit);
+        if let Err(error) = &resumed {
+            warn!("what was learned of Bootstraps can't be restored: {error}");
+        }
+        resumed.is_ok()
+    }
+
+    /// The router before this one heard Bootstraps, and what it learned of them isn't known: it stays with the library's
+    /// router, until a BSR has had the time to say it again. It answers whether that is so: the file has to have the same
+    /// ranges.
     pub(super) fn keeps_learned(&mut self, left: Option<&[LeftRange]>) -> bool {
         let is_same = left.map_or(false, |left| left == LeftRange::of(&ranges_of(&self.settings.rps)));
         let keeps = is_same && self.core.listens();

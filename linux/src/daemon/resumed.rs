@@ -52,6 +52,7 @@ impl Daemon {
             learned: self.due.learned,
             unlearned: self.due.unlearned,
             ranges: self.left_ranges(),
+            listener: self.core.saved_listener(),
             answers: Vec::new(),
             is_in_order: false,
         }
@@ -83,12 +84,13 @@ impl Daemon {
         let is_other = core.told != told_of(&settings, &told);
         let mut daemon = Daemon::of(file, settings, (kernel, machine), ports, core);
         daemon.set_policy();
+        let knows = why.is_none() && daemon.resume_listener(&left);
         daemon.speak()?;
         daemon.take_up(&left, way);
         let failed = daemon.resume_vifs();
         match why {
             Some(why) => daemon.begin_from(way, &why)?,
-            None => daemon.go_on(left, way)?,
+            None => daemon.go_on(left, way, knows)?,
         }
         for (number, why) in failed {
             daemon.goes_down(number, why)?;
@@ -123,8 +125,8 @@ impl Daemon {
         }
     }
 
-    /// The restored router goes on, and the kernel follows it.
-    fn go_on(&mut self, left: Left, way: Way) -> Result<(), Fatal> {
+    /// The restored router goes on, and the kernel follows it. It may know what was learned of Bootstraps.
+    fn go_on(&mut self, left: Left, way: Way, knows: bool) -> Result<(), Fatal> {
         let known = left.neighbours.into_iter().map(|it| {
             let neighbour = Neighbour { since: it.since, said: it.said, priority: it.priority };
             ((it.iface, it.address), neighbour)
@@ -140,7 +142,7 @@ impl Daemon {
         let Daemon { policy, core, kernel, machine, ports, .. } = self;
         policy.resume(&mut super::Ledger { core, kernel: kernel.as_ref(), machine, ports });
         self.advance()?;
-        if !self.keeps_learned(left.ranges.as_deref()) {
+        if knows || !self.keeps_learned(left.ranges.as_deref()) {
             let ranges = ranges_of(&self.settings.rps);
             self.take(Event::Ranges(&ranges))?;
         }

@@ -97,7 +97,7 @@ Buffer: TypeAlias = bytes | bytearray | memoryview
 Interface: TypeAlias = str | IPv4Interface | tuple[Any, ...]
 
 # What this package and the library have to agree on: VIQ_ABI of viqeshor.h.
-ABI = 10
+ABI = 11
 NEVER, NO_INTERFACE, NO_PLACE, MOST_BYTES = 2**64 - 1, 2**32 - 1, 2**32 - 1, 1528
 # The letters of the tables.
 TABLES = "NGSDAURF"
@@ -160,6 +160,7 @@ class Answer(enum.IntEnum):
     DAMAGED = 69
     NOT_NEAR = 72
     HOSTS_NOT_HELD = 71
+    RPS_NOT_HELD = 75
     OWN = 101
     NOT_FOR_ME = 102
     OTHER_TYPE = 103

@@ -18,7 +18,7 @@ import random
 import threading
 import weakref
 from collections.abc import Iterable
-from ctypes import POINTER, Structure, byref, c_bool, c_char_p, c_size_t, c_uint32, c_uint64, c_void_p
+from ctypes import POINTER, Structure, byref, c_bool, c_char_p, c_size_t, c_uint8, c_uint32, c_uint64, c_void_p
 from functools import cache
 from typing import Any, NamedTuple, Self
 
@@ -29,6 +29,7 @@ from viqeshor import (
     RAISED,
     Answer,
     Buffer,
+    CRange,
     Draw,
     Refused,
     Router,
@@ -72,6 +73,9 @@ CALLS: dict[str, tuple[list[Any], Any]] = {
     "next": ([], c_uint64),
     "pass": ([c_uint64, POINTER(c_bool)], c_uint32),
     "ranges": ([c_void_p, c_uint32, *LIST, Draw], c_uint32),
+    "save": ([POINTER(c_uint8), c_size_t, POINTER(c_size_t)], c_uint32),
+    "configured": ([], c_size_t),
+    "range": ([c_size_t, POINTER(CRange)], c_bool),
     "elected": ([POINTER(CElected)], c_bool),
     "rps": ([], c_size_t),
     "rp": ([c_size_t, POINTER(CRp)], c_bool),
@@ -89,6 +93,8 @@ def declared(path: str) -> ctypes.CDLL:
         call.argtypes, call.restype = [c_void_p, *takes], answers
     library.viq_bsr_new.argtypes = [POINTER(c_void_p), c_uint32, c_uint32, *LIST, c_uint64]
     library.viq_bsr_new.restype = c_uint32
+    library.viq_bsr_restore.argtypes = [POINTER(c_void_p), c_uint32, c_char_p, c_size_t]
+    library.viq_bsr_restore.restype = c_uint32
     return library
 
 
@@ -145,7 +151,8 @@ class Bsr:
 
     With a listener a program calls `frame`, `run_to`, `set_ranges` and `next_moment` of it in the place of those of the
     router; `hear`, `give` and `pass_to` are their steps. A reload gives the router the ranges that it has (`given`),
-    and then `set_ranges` sets the new configured ones. A listener is freed by `end`, or with its last reference."""
+    and then `set_ranges` sets the new configured ones. `save` is called beside that of the router. A listener is freed
+    by `end`, or with its last reference."""
 
     def __init__(
         self,
@@ -158,11 +165,29 @@ class Bsr:
         """The ranges are those that the router has. At most `limit` RPs are kept, 1 to 256, with those of messages of
         which fragments are missing. Until the timestamp `refresh_end` one message may come that a neighbour sends to a
         router which has just started: 60,000 ms after the router started, or 0 for none."""
-        self.lock = threading.RLock()
+        self._begin(library)
         self.configured, made = list(ranges), c_void_p()
-        self._library = declared(os.fspath(library or found()))
         given = number(limit, 32, "a limit"), *ranges_of(self.configured), number(refresh_end, 64, "a moment")
         self._must(self._library.viq_bsr_new(byref(made), ABI, *given))
+        self._keep(made)
+
+    @classmethod
+    def restore(cls, saved: Buffer, *, library: str | os.PathLike[str] | None = None) -> Self:
+        """A listener that knows what the one knew of which `save` returned the bytes, its configured ranges too. It is
+        for the router that is restored of what was saved at the same moment. Raises `Refused` where the bytes are none
+        of a listener, whatever they are."""
+        bsr, made, data = cls.__new__(cls), c_void_p(), bytes_of(saved)
+        bsr._begin(library)
+        bsr._must(bsr._library.viq_bsr_restore(byref(made), ABI, data, len(data)))
+        bsr._keep(made)
+        bsr.configured = bsr._ranges()
+        return bsr
+
+    def _begin(self, library: str | os.PathLike[str] | None) -> None:
+        self.lock = threading.RLock()
+        self._library = declared(os.fspath(library or found()))
+
+    def _keep(self, made: c_void_p) -> None:
         self._bsr: c_void_p | None = made
         self._finalizer = weakref.finalize(self, self._library.viq_bsr_end, made)
 
@@ -190,6 +215,22 @@ class Bsr:
         with self.lock:
             self._bsr = None
             self._finalizer()
+
+    def save(self) -> bytes:
+        """All that the listener knows as bytes, of which `restore` makes one. A router's `save` doesn't have it."""
+        size = c_size_t()
+        with self.lock:
+            self._must(self._call("save", None, 0, byref(size)))
+            room = (c_uint8 * size.value)()
+            self._must(self._call("save", room, size, byref(size)))
+        return bytes(room)
+
+    def _ranges(self) -> list[tuple[str, str]]:
+        told, rows = CRange(), []
+        for index in range(self._call("configured")):
+            self._call("range", index, byref(told))
+            rows.append((f"{dotted(told.prefix)}/{told.length}", dotted(told.rp)))
+        return rows
 
     # ---- whole steps
 

@@ -1,6 +1,7 @@
 //! RPs that are learned of Bootstraps (RFC 5059): which are believed, what the library's router has of them, and until when.
 use super::restarted::{left_by, resumed, same_machine};
 use super::*;
+use crate::left::Left;
 use crate::policy::Cause;
 use crate::schemas::Schema;
 use crate::show;
@@ -27,12 +28,17 @@ pub fn bootstrap(ranges: &[([u8; 4], u8, [u8; 4])]) -> (Source, kernel::Event) {
 
 /// One of a router on the link.
 fn from(sender: [u8; 4], ranges: &[([u8; 4], u8, [u8; 4])]) -> (Source, kernel::Event) {
+    said(sender, 1, ranges)
+}
+
+/// One in which each range has so many RPs, of which it says one.
+fn said(sender: [u8; 4], count: u8, ranges: &[([u8; 4], u8, [u8; 4])]) -> (Source, kernel::Event) {
     let mut content = vec![0x24, 0, 0, 0, 0, 7, 30, 10, 1, 0];
     content.extend(BSR);
     for (prefix, length, rp) in ranges {
         content.extend([1, 0, 0, *length]);
         content.extend(prefix);
-        content.extend([1, 1, 0, 0, 1, 0]);
+        content.extend([count, 1, 0, 0, 1, 0]);
         content.extend(rp);
         content.extend([0, 150, 0, 0]);
     }
@@ -133,12 +139,45 @@ fn other_settings_leave_what_is_learned() {
 }
 
 #[test]
-fn a_router_in_the_place_of_another_one_keeps_what_that_learned() {
+fn a_router_in_the_place_of_another_one_knows_what_that_learned() {
     let (mut daemon, fake) = begun(&listening(), &both());
     happens(&mut daemon, &fake, wide(LEARNED));
+    // Of two RPs, one of which is missing.
+    happens(&mut daemon, &fake, said([10, 1, 0, 2], 2, &[([238, 0, 0, 0], 8, LEARNED)]));
+    let begins = |text: &str| {
+        let other = same_machine(&fake);
+        (resumed(text, &other, left_by(&daemon), Way::Death), other)
+    };
+    // Nothing is said again.
+    let (mut next, other) = begins(&listening());
+    assert_eq!((next.core.learned(), next.core.learned_parts()), (daemon.core.learned(), daemon.core.learned_parts()));
+    assert_eq!((next.core.elected(), rp(&next, GROUP)), (daemon.core.elected(), Some(LEARNED.into())));
+    passes(&mut next, &other, 149_000);
+    assert_eq!(rp(&next, GROUP), Some(LEARNED.into()));
+    passes(&mut next, &other, 1_500);
+    assert_eq!(rp(&next, GROUP), None);
+    // The other fragment comes.
+    let (mut next, other) = begins(&listening());
+    assert_eq!(rp(&next, [238, 1, 1, 1]), None);
+    happens(&mut next, &other, said([10, 1, 0, 2], 2, &[([238, 0, 0, 0], 8, OTHER)]));
+    assert!(rp(&next, [238, 1, 1, 1]).is_some());
+    // The file has other ranges, or hears none.
+    let (next, _) = begins(&listening().replace("239.2.0.0/16", "239.3.0.0/16"));
+    assert_eq!((rp(&next, [239, 2, 1, 1]), rp(&next, GROUP)), (Some(LEARNED.into()), Some(LEARNED.into())));
+    assert_eq!(rp(&begins(TWO).0, GROUP), None);
+}
+
+#[test]
+fn a_router_in_the_place_of_an_older_one_keeps_what_that_learned() {
+    let (mut daemon, fake) = begun(&listening(), &both());
+    happens(&mut daemon, &fake, wide(LEARNED));
+    let left_by_older = || {
+        let (left, saved) = left_by(&daemon);
+        (Left { listener: None, ..left }, saved)
+    };
     let begins = || {
         let other = same_machine(&fake);
-        let next = resumed(&listening(), &other, left_by(&daemon), Way::Whole);
+        let next = resumed(&listening(), &other, left_by_older(), Way::Whole);
         assert_eq!(rp(&next, GROUP), Some(LEARNED.into()));
         (next, other)
     };
@@ -155,7 +194,7 @@ fn a_router_in_the_place_of_another_one_keeps_what_that_learned() {
     assert_eq!(rp(&next, GROUP), Some(OTHER.into()));
     // The file has other ranges.
     let text = listening().replace("239.2.0.0/16", "239.3.0.0/16");
-    assert_eq!(rp(&resumed(&text, &same_machine(&fake), left_by(&daemon), Way::Whole), GROUP), None);
+    assert_eq!(rp(&resumed(&text, &same_machine(&fake), left_by_older(), Way::Whole), GROUP), None);
 }
 
 #[test]

@@ -1,0 +1,5 @@
+use Rattle.law_converges.{proofs.EachMemberRun.both_are_served}
+use Rattle.law_converges.proofs.runs.both_are_served.Goals as goal
+
+pub returns : goal.returns
+returns c = both_are_served

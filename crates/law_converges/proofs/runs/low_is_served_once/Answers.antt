@@ -1,5 +1,0 @@
-use Rattle.law_converges.{proofs.MemberLinksRun.low_is_served_once}
-use Rattle.law_converges.proofs.runs.low_is_served_once.Goals as goal
-
-pub returns : goal.returns
-returns c = low_is_served_once

@@ -1,0 +1,5 @@
+use Rattle.law_converges.{proofs.MemberLinksRun.nothing_else_comes_to_both}
+use Rattle.law_converges.proofs.runs.nothing_else_comes_to_both.Goals as goal
+
+pub returns : goal.returns
+returns c = nothing_else_comes_to_both
