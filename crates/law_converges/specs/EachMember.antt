@@ -5,9 +5,9 @@ use Rattle.pim_model.{specs.Network.{Move, Network}}
 use Rattle.law_streams.{specs.InTimeJoins.{IsBy, Star}}
 use Rattle.law_converges.{specs.{AloneOnLink.{AreMembers, ComesDownTheWay}, Carried.{Arrivals, EachMove, Traffic}, CarriedNetwork.{HopOn, IsQuietPlan, Lan, Plan, number_of}, CarriedWays.{forwarders, root_of}, ComesOnce.{AllCameDown, AreServedOnce, HoldsPastOn}, JoinedWays.a_hop, LinkDr.Member, MemberLinks.{AreHeld, HasNotLost, ReachesHosts, ServesMember, to_hosts}, Past.{ArePast, HoldsPast}, RoutedWays.AreFree, RoutesToRp.{AllCanJoin, AreNeighbours, AreRpf, RoutesLead, Routing, WantsThroughout, hops_up}, Settles.routers}}
 
--- A router serves a link with a member, and its routes lead over k next hops to the RP, which is on another link. From a limit on nothing
--- keeps a source's packets from these next hops and from the hosts. The limit is k hops after the bound, or sooner where the router wants
--- the group throughout.
+-- A router serves a link with a member, and isn't the RP; its routes lead there over next hops, no more than its distance k, of which the
+-- first is on another link. From a limit on nothing keeps a source's packets from these next hops and from the hosts. The limit is k hops
+-- after the bound, or sooner where the router wants the group throughout.
 pub record IsReached (g src rp d lag bound limit k : ℕ) (started : ℕ → ℕ) (plan : Plan) (routing : Routing) (n : Network) (ms : List Move)
     (a : Lan) (x : Member) (h : HopOn) (hs : List HopOn) : Type 0 where
   pub serves : ServesMember g plan.lans a x
