@@ -33,6 +33,7 @@ static void set_sum(uint8_t *bytes, size_t length, size_t place) {
 #define viq_down(router, ...) (viq_clear(router), viq_down(router, __VA_ARGS__))
 #define viq_routes(router, ...) (viq_clear(router), viq_routes(router, __VA_ARGS__))
 #define viq_ranges(router, ...) (viq_clear(router), viq_ranges(router, __VA_ARGS__))
+#define viq_candidates(router, ...) (viq_clear(router), viq_candidates(router, __VA_ARGS__))
 #define viq_seen(router, ...) (viq_clear(router), viq_seen(router, __VA_ARGS__))
 #define viq_reload(router, ...) (viq_clear(router), viq_reload(router, __VA_ARGS__))
 #define viq_reload_places(router, ...) (viq_clear(router), viq_reload_places(router, __VA_ARGS__))
@@ -41,6 +42,8 @@ static const struct viq_settings usual = VIQ_USUAL_SETTINGS;
 static const struct viq_interface three[] = {{0x0a000002, 24, 1, 500, 2500}, {0x0a000101, 24, 1, 500, 2500}, {0x0a000201, 24, 1, 500, 2500}};
 static const struct viq_route two[] = {{0x0a090900, 24, 0x0a000001, 0, 110, 20}, {0x0a000300, 24, 0x0a000001, 0, 110, 20}};
 static const struct viq_range one[] = {{0xe0000000, 4, 0x0a090909}};
+/* Two RPs of 239.0.0.0/8. */
+static const struct viq_candidate pair[] = {{0xef000000, 8, 0x0a090909, 7, 30}, {0xef000000, 8, 0x0a080808, 7, 30}};
 
 static uint32_t made(struct viq_router **router, const struct viq_settings *settings) {
     return viq_new(router, VIQ_ABI, settings, three, COUNT(three), two, COUNT(two), one, COUNT(one));
@@ -88,6 +91,7 @@ static void without_a_router(void) {
     is("down without a router", viq_down(NULL, 0, viq_draw(0)), VIQ_NO_ROUTER);
     is("routes without a router", viq_routes(NULL, two, 2, viq_draw(0)), VIQ_NO_ROUTER);
     is("ranges without a router", viq_ranges(NULL, one, 1, viq_draw(0)), VIQ_NO_ROUTER);
+    is("candidates without a router", viq_candidates(NULL, pair, 2, viq_draw(0)), VIQ_NO_ROUTER);
     is("reload without a router", reloaded(NULL, &usual, 3), VIQ_NO_ROUTER);
     is("reload by places without a router", placed(NULL, &usual, NULL, 0), VIQ_NO_ROUTER);
     is("packets without a router", viq_packets(NULL), 0);
@@ -265,7 +269,23 @@ static void refused_items(void) {
         {{0xe0000000, 3, 1}, VIQ_ITEM_LENGTH}, {{0xe0000000, 33, 1}, VIQ_ITEM_LENGTH}, {{0xe0000001, 31, 1}, VIQ_ITEM_HOST_BITS},
         {{0xd0000000, 4, 1}, VIQ_ITEM_NO_GROUPS}, {{0xe8000000, 8, 0}, VIQ_ITEM_NO_HOST},
         {{0xe8000000, 8, 0xe0000000}, VIQ_ITEM_NO_HOST}, {one[0], VIQ_ITEM_TWICE}, {{0xe0000000, 5, 1}, 0}};
+    struct { struct viq_candidate candidate; uint32_t reason; } odd[] = {
+        {{0xe0000000, 3, 1, 0, 0}, VIQ_ITEM_LENGTH}, {{0xe0000000, 33, 1, 0, 0}, VIQ_ITEM_LENGTH},
+        {{0xe0000001, 31, 1, 0, 0}, VIQ_ITEM_HOST_BITS}, {{0xd0000000, 4, 1, 0, 0}, VIQ_ITEM_NO_GROUPS},
+        {{0xe8000000, 8, 0, 0, 0}, VIQ_ITEM_NO_HOST}, {{0xe8000000, 8, 0xe0000000, 0, 0}, VIQ_ITEM_NO_HOST},
+        {{0xef000000, 8, 1, 256, 0}, VIQ_ITEM_PRIORITY}, {{0xef000000, 8, 1, 0, 33}, VIQ_ITEM_HASH_LENGTH},
+        {{0xef000000, 8, 0x0a090909, 0, 0}, VIQ_ITEM_RP_TWICE}, {{0xef000000, 9, 0x0a090909, 7, 30}, 0}, {{0xef000000, 8, 1, 255, 32}, 0}};
     struct viq_refused_at at = {7, 7};
+    for (size_t n = 0; n < COUNT(odd); n++) {
+        struct viq_candidate candidates[] = {pair[0], odd[n].candidate};
+        struct viq_router *router;
+        is("a candidate that is refused", viq_candidates_refused_at(candidates, 2, &at), odd[n].reason != 0);
+        is("its reason", at.reason, odd[n].reason);
+        is("its place", at.index, odd[n].reason ? 1 : 2);
+        is("a router for it", made(&router, &usual), VIQ_DONE);
+        is("as the library says", viq_candidates(router, candidates, 2, viq_draw(0)), odd[n].reason ? VIQ_BAD_CANDIDATES : VIQ_DONE);
+        viq_end(router);
+    }
     for (size_t n = 0; n < COUNT(wrong); n++) {
         struct viq_route routes[] = {two[0], wrong[n].route};
         is("a route that is refused", viq_routes_refused_at(three, COUNT(three), NULL, 0, routes, 2, &at), wrong[n].reason != 0);
@@ -290,8 +310,10 @@ static void refused_items(void) {
     is("too many", viq_routes_refused_at(three, COUNT(three), NULL, 0, many, SIZE_MAX, &at), true);
     is("the first too many", at.index == VIQ_MOST_ROUTES && at.reason == VIQ_ITEM_COUNT, true);
     is("too many ranges", viq_ranges_refused_at(one, SIZE_MAX, &at) && at.index == VIQ_MOST_RANGES && at.reason == VIQ_ITEM_COUNT, true);
+    is("too many candidates", viq_candidates_refused_at(pair, SIZE_MAX, &at) && at.index == VIQ_MOST_CANDIDATES && at.reason == VIQ_ITEM_COUNT, true);
     is("no lists", viq_routes_refused_at(NULL, 0, NULL, 0, NULL, 0, &at) || viq_ranges_refused_at(NULL, 0, &at), false);
-    for (uint32_t reason = 0; reason <= VIQ_ITEM_COUNT; reason++)
+    is("no candidates", viq_candidates_refused_at(NULL, 0, &at), false);
+    for (uint32_t reason = 0; reason < VIQ_ITEM_RP_TWICE; reason++)
         is("a text of its own", strcmp(viq_refused_text(reason), viq_refused_text(reason + 1)) != 0, true);
 }
 
@@ -306,7 +328,9 @@ static void long_lists(struct viq_router *router) {
         is("routes before ranges", can_be_made(&usual, three, 3, two, counts[at], one, counts[at]), VIQ_CONFIGURED_ROUTES);
         is("too many new routes", viq_routes(router, two, counts[at], viq_draw(0)), VIQ_BAD_ROUTES);
         is("too many new ranges", viq_ranges(router, one, counts[at], viq_draw(0)), VIQ_BAD_RANGES);
+        is("too many candidates", viq_candidates(router, pair, counts[at], viq_draw(0)), VIQ_BAD_CANDIDATES);
     }
+    is("257 candidates", viq_candidates(router, pair, VIQ_MOST_CANDIDATES + 1, viq_draw(0)), VIQ_BAD_CANDIDATES);
     is("257 ranges", viq_ranges(router, one, VIQ_MOST_RANGES + 1, viq_draw(0)), VIQ_BAD_RANGES);
     is("no node is visited", viq_probes(router), 0);
 }
@@ -437,6 +461,7 @@ static void untaken(struct viq_router *router) {
         (viq_frame)(router, 9, NULL, 0, viq_draw(0)), (viq_unicast)(router, NULL, 0, viq_draw(0)),
         (viq_up)(router, 0, viq_draw(0)), (viq_down)(router, 0, viq_draw(0)),
         (viq_routes)(router, two, 1, viq_draw(0)), (viq_ranges)(router, one, 0, viq_draw(0)),
+        (viq_candidates)(router, pair, 2, viq_draw(0)),
         (viq_seen)(router, 0, 0x0a000305, 0xe1010101, viq_draw(0)),
         (viq_reload)(router, &usual, three, COUNT(three), two, COUNT(two), one, COUNT(one), viq_draw(0))};
     for (size_t at = 0; at < COUNT(answers); at++) is("untaken", answers[at], VIQ_UNTAKEN);
@@ -652,6 +677,60 @@ static void moved_sources(void) {
     is("the RP goes", viq_ranges(router, one, 0, viq_draw(0)), VIQ_DONE);
     is("a source of its group", viq_may_differ(router, 0x0a000305, 0xe1010101), true);
     is("of a group that had none", viq_may_differ(router, 0x0a000305, 0xe8010101), false);
+    is("candidates come", viq_candidates(router, pair, 2, viq_draw(0)), VIQ_DONE);
+    is("a source of their groups", viq_may_differ(router, 0x0a000305, 0xef010101), true);
+    is("of another group", viq_may_differ(router, 0x0a000305, 0xe1010101), false);
+    viq_end(router);
+}
+
+/* The RP of a group, or 0. */
+static uint32_t rp_of(struct viq_router *router, uint32_t group) {
+    struct viq_tree tree = {.rpf_cause = 7};
+    return viq_tree(router, group, &tree) && tree.rp.is_there ? tree.rp.value : 0;
+}
+
+/* The RP of 239.1.1.1 with these candidates. */
+static uint32_t rp_with(struct viq_router *router, const struct viq_candidate *candidates, size_t count) {
+    is("candidates", viq_candidates(router, candidates, count, viq_draw(0)), VIQ_DONE);
+    return rp_of(router, 0xef010101);
+}
+
+/* By RFC 7761, 4.7.2, Value(239.1.1.1, M, C) is 1,909,564,438 of 10.8.8.8 and 458,221,737 of 10.9.9.9 with a mask of 30
+ * bits, 464,069,967 and 1,219,757,756 with one of 32. */
+static void candidates(void) {
+    enum { EIGHT = 0x0a080808, NINE = 0x0a090909, OTHER = 0x0a000309 };
+    static const struct viq_candidate of_32[] = {{0xef000000, 8, NINE, 7, 32}, {0xef000000, 8, EIGHT, 7, 32}};
+    static const struct viq_candidate lower[] = {{0xef000000, 8, NINE, 6, 30}, {0xef000000, 8, EIGHT, 7, 30}};
+    static const struct viq_candidate longer[] = {{0xef000000, 8, NINE, 0, 30}, {0xef000000, 12, OTHER, 255, 0}};
+    static const struct viq_candidate wide[] = {{0xe0000000, 4, EIGHT, 0, 30}};
+    static const struct viq_range same[] = {{0xef000000, 8, OTHER}};
+    struct viq_router *router = NULL, *again = NULL;
+    uint8_t bytes[1024];
+    size_t size = 0;
+    is("new for candidates", made(&router, &usual), VIQ_DONE);
+    is("the RP of the range", rp_of(router, 0xef010101), NINE);
+    is("by the hash", rp_with(router, pair, COUNT(pair)), EIGHT);
+    is("a group of the range alone", rp_of(router, 0xe1010101), NINE);
+    is("an SSM group", rp_of(router, 0xe8010101), 0);
+    is("by a longer mask", rp_with(router, of_32, COUNT(of_32)), NINE);
+    is("by the priority", rp_with(router, lower, COUNT(lower)), NINE);
+    is("by the longer prefix", rp_with(router, longer, COUNT(longer)), OTHER);
+    is("of one prefix the range", rp_with(router, wide, COUNT(wide)), NINE);
+    is("both again", rp_with(router, pair, COUNT(pair)), EIGHT);
+    is("what is refused changes nothing", viq_candidates(router, (struct viq_candidate[]){pair[0], pair[0]}, 2, viq_draw(0)), VIQ_BAD_CANDIDATES);
+    is("they stay then", rp_of(router, 0xef010101), EIGHT);
+    is("a range of their prefix", viq_ranges(router, same, COUNT(same), viq_draw(0)), VIQ_DONE);
+    is("it has the RP", rp_of(router, 0xef010101), OTHER);
+    is("no range", viq_ranges(router, NULL, 0, viq_draw(0)), VIQ_DONE);
+    is("they stay with new ranges", rp_of(router, 0xef010101), EIGHT);
+    is("another configuration", reloaded(router, &usual, 2), VIQ_DONE);
+    is("they stay with it", rp_of(router, 0xef010101), EIGHT);
+    is("saved", viq_save(router, bytes, sizeof bytes, &size), VIQ_DONE);
+    is("in version 4", memcmp(bytes, "VQST\0\4", 6), 0);
+    is("restored", viq_restore(&again, VIQ_ABI, bytes, size), VIQ_DONE);
+    is("with them", rp_of(again, 0xef010101), EIGHT);
+    is("without candidates", rp_with(router, NULL, 0), NINE);
+    viq_end(again);
     viq_end(router);
 }
 
@@ -864,12 +943,6 @@ static size_t put_bootstrap(uint8_t *bytes, const uint32_t *rps, uint8_t count) 
     return length;
 }
 
-/* The RP of a group, or 0. */
-static uint32_t rp_of(struct viq_router *router, uint32_t group) {
-    struct viq_tree tree = {.rpf_cause = 7};
-    return viq_tree(router, group, &tree) && tree.rp.is_there ? tree.rp.value : 0;
-}
-
 static void without_a_listener(struct viq_router *router) {
     struct viq_bsr_elected elected = {7, 7, 7};
     struct viq_bsr_rp rp = {.rp = 7};
@@ -885,6 +958,9 @@ static void without_a_listener(struct viq_router *router) {
     is("nothing moved of that", moved, false);
     is("ranges without a listener", viq_bsr_ranges(NULL, router, 1, one, 1, viq_draw(7)), VIQ_NO_LISTENER);
     is("no limit without a listener", viq_bsr_ranges(NULL, router, 0, one, 1, viq_draw(7)), VIQ_NO_SETTING);
+    is("a choice without a listener", viq_bsr_choose(NULL, VIQ_FOR_GROUP), VIQ_NO_LISTENER);
+    is("no choice without a listener", viq_bsr_choose(NULL, 2), VIQ_NO_SETTING);
+    is("what is chosen for without one", viq_bsr_choice(NULL), VIQ_FOR_RANGE);
     is("next without a listener", viq_bsr_next(NULL), VIQ_NEVER);
     is("elected without a listener", viq_bsr_elected(NULL, &elected), false);
     is("RPs without a listener", viq_bsr_rps(NULL) + viq_bsr_parts(NULL) + viq_bsr_configured(NULL), 0);
@@ -1016,6 +1092,25 @@ static void other_ranges(struct viq_bsr *bsr, struct viq_router *router) {
     is("the learned RP again", rp_of(router, 0xef090909), FIRST);
 }
 
+/* An RP of each group, by the values that the worked run has, and of the range again. */
+static void for_each_group(struct viq_bsr *bsr, struct viq_router *router) {
+    struct viq_bsr_rp rp = {.rp = 7};
+    is("for a range", viq_bsr_choice(bsr), VIQ_FOR_RANGE);
+    is("for neither", viq_bsr_choose(bsr, 2), VIQ_NO_SETTING);
+    is("for each group", viq_bsr_choose(bsr, VIQ_FOR_GROUP) == VIQ_DONE && viq_bsr_choice(bsr) == VIQ_FOR_GROUP, true);
+    is("every RP is given", viq_bsr_rp(bsr, 0, &rp) && rp.rp == SECOND && rp.is_given, true);
+    is("the candidates", viq_bsr_give(bsr, router, viq_draw(7)), VIQ_DONE);
+    is("beside the range that is there", rp_of(router, 0xef000004), FIRST);
+    is("the configured range alone", viq_bsr_ranges(bsr, router, 100, narrow, 1, viq_draw(7)), VIQ_DONE);
+    is("one group's RP", rp_of(router, 0xef000001), FIRST);
+    is("another's", rp_of(router, 0xef000004), THIRD);
+    is("the configured RP still", rp_of(router, 0xef010004), STATIC);
+    is("for a range again", viq_bsr_choose(bsr, VIQ_FOR_RANGE), VIQ_DONE);
+    is("the range", viq_bsr_give(bsr, router, viq_draw(7)), VIQ_DONE);
+    is("no candidates", viq_candidates(router, NULL, 0, viq_draw(7)), VIQ_DONE);
+    is("one RP for both", rp_of(router, 0xef000001) == FIRST && rp_of(router, 0xef000004) == FIRST, true);
+}
+
 static void ends_of_learned(struct viq_bsr *bsr, struct viq_router *router) {
     struct viq_bsr_elected elected = {7, 7, 7};
     bool moved = true;
@@ -1043,6 +1138,7 @@ static void bootstraps(void) {
     bsr = saved_and_restored(bsr);
     second_fragment(bsr, router);
     other_ranges(bsr, router);
+    for_each_group(bsr, router);
     ends_of_learned(bsr, router);
     viq_bsr_end(bsr);
     viq_end(router);
@@ -1661,18 +1757,23 @@ static void record_calls(void) {
 
 static void record_lists(void) {
     static const char ranges[] = "g\0\0\0\x9\0\0\0\0\0\0\0\1\xe0\0\0\0\0\0\0\4\x0a\x9\x9\x9" END;
+    static const char several[] = "h\0\0\0\x9\0\0\0\0\0\0\0\1\xef\0\0\0\0\0\0\x8\x0a\x9\x9\x9\0\0\0\7\0\0\0\x1e" END;
     static const char none[] = "r\0\0\0\x9\0\0\0\0\0\0\0\0" END;
     struct viq_call call = {.draw = 9, .answer = VIQ_FULL, .sum = 0x01020304};
     uint8_t room[512], long_one[64];
     size_t size = 7, other = 7;
     is("ranges", viq_record_ranges(&call, one, COUNT(one), room, sizeof room, &size), VIQ_DONE);
     is("the bytes of ranges", size == sizeof ranges + 3 && memcmp(room, ranges, size - 4) == 0 && is_summed(room, size), true);
+    is("a candidate", viq_record_candidates(&call, pair, 1, room, sizeof room, &size), VIQ_DONE);
+    is("the bytes of a candidate", size == sizeof several + 3 && memcmp(room, several, size - 4) == 0 && is_summed(room, size), true);
     is("no routes", viq_record_routes(&call, NULL, 0, room, sizeof room, &size), VIQ_DONE);
     is("the bytes of no routes", size == sizeof none + 3 && memcmp(room, none, size - 4) == 0 && is_summed(room, size), true);
     is("two routes", viq_record_routes(&call, two, COUNT(two), NULL, 0, &size), VIQ_DONE);
     is("their size", size, 1 + 4 + 8 + 2 * 24 + 8 + 4);
     is("too many routes", viq_record_routes(&call, two, VIQ_MOST_ROUTES + 1, long_one, sizeof long_one, &other), VIQ_DONE);
     is("as one that is refused", other == 1 + 4 + 8 + 24 + 8 + 4 && long_one[20] == 33, true);
+    is("too many candidates", viq_record_candidates(&call, pair, SIZE_MAX, long_one, sizeof long_one, &other), VIQ_DONE);
+    is("as one that is refused too", other == 1 + 4 + 8 + 20 + 8 + 4 && long_one[20] == 33, true);
     is("a reload", viq_record_reload(&call, &usual, three, COUNT(three), two, COUNT(two), one, COUNT(one), room, sizeof room, &size), VIQ_DONE);
     is("its size", size, 1 + 4 + 21 + 8 + 3 * 20 + 8 + 8 + 2 * 24 + 8 + 12 + 8 + 4);
     is("its sum", is_summed(room, size), true);
@@ -1787,7 +1888,7 @@ static void texts(void) {
     is("ignored", viq_is_ignored(VIQ_OWN) && viq_is_ignored(VIQ_ALREADY) && viq_is_ignored(VIQ_GUARDED) && !viq_is_ignored(VIQ_NO_TIMER) && !viq_is_ignored(VIQ_NOT_QUIET) && !viq_is_ignored(VIQ_IGNORED), true);
     is("untaken", viq_is_refused(VIQ_UNTAKEN) || viq_is_ignored(VIQ_UNTAKEN) || viq_is_lost(VIQ_UNTAKEN), false);
     is("lost", viq_is_lost(VIQ_LOST) && viq_is_lost(VIQ_FAILED) && !viq_is_lost(VIQ_MEMORY), true);
-    is("refused past the first numbers", viq_is_refused(VIQ_OWN_ADDRESSES) && viq_is_refused(VIQ_PLACES_DONT_FIT) && viq_is_refused(VIQ_BAD_RP_SET) && !viq_is_refused(VIQ_NOT_NEAR), true);
+    is("refused past the first numbers", viq_is_refused(VIQ_OWN_ADDRESSES) && viq_is_refused(VIQ_PLACES_DONT_FIT) && viq_is_refused(VIQ_BAD_CANDIDATES) && viq_is_refused(VIQ_BAD_RP_SET) && !viq_is_refused(VIQ_NOT_NEAR), true);
     is("the last reason", strcmp(viq_answer_text(VIQ_NOT_PREFERRED), viq_answer_text(VIQ_NOT_PREFERRED + 1)) != 0, true);
 }
 
@@ -1808,6 +1909,7 @@ int main(void) {
     plane();
     full();
     moved_sources();
+    candidates();
     guarded();
     shared_addresses();
     bootstraps();

@@ -11,6 +11,7 @@
 static const uint32_t no_address = 0;
 static const struct viq_route no_route = {0, 33, 0, 0, 0, 0};
 static const struct viq_range no_range = {0, 33, 0};
+static const struct viq_candidate no_candidate = {0, 33, 0, 0, 0};
 static const struct viq_rp_set no_rp_set = {0, 0, NULL, 0};
 
 struct route_list {
@@ -19,6 +20,10 @@ struct route_list {
 };
 struct range_list {
     const struct viq_range *at;
+    size_t count;
+};
+struct candidate_list {
+    const struct viq_candidate *at;
     size_t count;
 };
 
@@ -35,6 +40,11 @@ static struct route_list routes_of(const struct viq_route *routes, size_t count)
 static struct range_list ranges_of(const struct viq_range *ranges, size_t count) {
     struct range_list given = {ranges, count}, refused = {&no_range, 1};
     return count <= VIQ_MOST_RANGES ? given : refused;
+}
+
+static struct candidate_list candidates_of(const struct viq_candidate *candidates, size_t count) {
+    struct candidate_list given = {candidates, count}, refused = {&no_candidate, 1};
+    return count <= VIQ_MOST_CANDIDATES ? given : refused;
 }
 
 /* Each refusal of sets is the same. */
@@ -159,6 +169,12 @@ uint32_t viq_ranges(struct viq_router *router, const struct viq_range *ranges, s
     return viq_core_ranges(CORE(router), draw.bits, given.at, given.count);
 }
 
+uint32_t viq_candidates(struct viq_router *router, const struct viq_candidate *candidates, size_t count,
+                        struct viq_draw draw) {
+    struct candidate_list given = candidates_of(candidates, count);
+    return viq_core_candidates(CORE(router), draw.bits, given.at, given.count);
+}
+
 size_t viq_packets(const struct viq_router *router) { return viq_core_packets(CORE(router)); }
 
 bool viq_take(struct viq_router *router, struct viq_packet *packet, uint8_t *room, size_t room_length) {
@@ -274,6 +290,12 @@ uint32_t viq_record_ranges(const struct viq_call *call, const struct viq_range *
     return viq_core_record_ranges(call, given.at, given.count, room, room_length, size);
 }
 
+uint32_t viq_record_candidates(const struct viq_call *call, const struct viq_candidate *candidates, size_t count,
+                               uint8_t *room, size_t room_length, size_t *size) {
+    struct candidate_list given = candidates_of(candidates, count);
+    return viq_core_record_candidates(call, given.at, given.count, room, room_length, size);
+}
+
 uint32_t viq_record_anycast(const struct viq_call *call, const struct viq_rp_set *sets, size_t count, uint8_t *room,
                             size_t room_length, size_t *size) {
     struct rp_set_list given = rp_sets_of(sets, count);
@@ -352,6 +374,10 @@ uint32_t viq_bsr_ranges(struct viq_bsr *bsr, struct viq_router *router, uint32_t
     struct range_list given = ranges_of(ranges, count);
     return viq_core_bsr_ranges(LISTENER(bsr), CORE(router), draw.bits, limit, given.at, given.count);
 }
+
+uint32_t viq_bsr_choose(struct viq_bsr *bsr, uint32_t choice) { return viq_core_bsr_choose(LISTENER(bsr), choice); }
+
+uint32_t viq_bsr_choice(const struct viq_bsr *bsr) { return viq_core_bsr_choice(LISTENER(bsr)); }
 
 size_t viq_bsr_configured(const struct viq_bsr *bsr) { return viq_core_bsr_configured(LISTENER(bsr)); }
 

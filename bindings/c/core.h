@@ -67,6 +67,7 @@ uint32_t viq_core_up(struct viq_core *router, uint32_t draw, uint32_t iface);
 uint32_t viq_core_down(struct viq_core *router, uint32_t draw, uint32_t iface);
 uint32_t viq_core_routes(struct viq_core *router, uint32_t draw, const struct viq_route *routes, size_t count);
 uint32_t viq_core_ranges(struct viq_core *router, uint32_t draw, const struct viq_range *ranges, size_t count);
+uint32_t viq_core_candidates(struct viq_core *router, uint32_t draw, const struct viq_candidate *candidates, size_t count);
 size_t viq_core_packets(struct viq_core *router);
 bool viq_core_take(struct viq_core *router, struct viq_packet *packet, uint8_t *room, size_t room_length);
 void viq_core_clear(struct viq_core *router);
@@ -99,6 +100,8 @@ uint32_t viq_core_record_routes(const struct viq_call *call, const struct viq_ro
                                 uint8_t *room, size_t room_length, size_t *size);
 uint32_t viq_core_record_ranges(const struct viq_call *call, const struct viq_range *ranges, size_t count,
                                 uint8_t *room, size_t room_length, size_t *size);
+uint32_t viq_core_record_candidates(const struct viq_call *call, const struct viq_candidate *candidates, size_t count,
+                                    uint8_t *room, size_t room_length, size_t *size);
 uint32_t viq_core_record_anycast(const struct viq_call *call, const struct viq_rp_set *sets, size_t count,
                                  uint8_t *room, size_t room_length, size_t *size);
 uint32_t viq_core_record_reload(const struct viq_call *call, const struct viq_core_configuration *given,
@@ -121,6 +124,8 @@ uint64_t viq_core_bsr_next(struct viq_core_bsr *listener);
 uint32_t viq_core_bsr_pass(struct viq_core_bsr *listener, uint64_t moment, bool *moved);
 uint32_t viq_core_bsr_ranges(struct viq_core_bsr *listener, struct viq_core *router, uint32_t draw, uint32_t limit,
                              const struct viq_range *ranges, size_t count);
+uint32_t viq_core_bsr_choose(struct viq_core_bsr *listener, uint32_t choice);
+uint32_t viq_core_bsr_choice(struct viq_core_bsr *listener);
 size_t viq_core_bsr_configured(struct viq_core_bsr *listener);
 bool viq_core_bsr_range(struct viq_core_bsr *listener, size_t index, struct viq_range *range);
 bool viq_core_bsr_elected(struct viq_core_bsr *listener, struct viq_bsr_elected *elected);

@@ -39,6 +39,7 @@ const char *viq_answer_text(uint32_t answer) {
     case VIQ_CONFIGURED_RANGES: return "configured RP ranges that can't stand";
     case VIQ_OWN_ADDRESSES: return "own addresses that can't stand";
     case VIQ_PLACES_DONT_FIT: return "a map of places that doesn't name each interface once";
+    case VIQ_BAD_CANDIDATES: return "candidate RPs that can't stand";
     case VIQ_BAD_RP_SET: return "sets of RPs that share an address, which the router can't have";
     case VIQ_MEMORY: return "memory was refused, and nothing has changed";
     case VIQ_FAILED: return "the router was lost before";

@@ -1,7 +1,7 @@
 """`dev/computed_run`: which equations it makes of a scenario, and what it makes of the kernel's answers.
 
-The kernel is a stand-in here. With KERNEL=1 in the environment the kit's own is asked too, which takes minutes the
-first time.
+The kernel is a stand-in here. With KERNEL=1 in the environment the kit's own is asked too, as the gate does once it has
+put the stored scenarios to it (dev/upkeep/beside.py): both work in one scratch repository, so never side by side.
 """
 import contextlib
 import io
@@ -42,11 +42,22 @@ def read(text, lines):
 
 class Numbers(unittest.TestCase):
     def test_each_printed_row_is_that_of_its_numbers(self):
-        # Rows O are of a router's front, which the definitions' router doesn't have.
-        rows = {line for _, lines in stored.played() for line in lines if re.match("[A-NP-Z] ", line)}
+        # Rows O, B and L are of what stands before a router, which the definitions' router doesn't have.
+        rows = {line for _, lines in stored.played() for line in lines if re.match("[AC-KMNP-Z] ", line)}
         self.assertGreater(len(rows), 500)
         for row in rows:
             self.assertEqual(run.row_words(run.row_numbers(row.split(" "))), row)
+
+    def test_rows_of_what_stands_before_a_router(self):
+        case = run.Case([], [], [], [], [])
+        rows = {line for _, lines in stored.played() for line in lines if re.match("[OBL] ", line)}
+        self.assertEqual({row[0] for row in rows}, set("OBL"))
+        self.assertGreater(len(rows), 20)
+        for row in rows:
+            self.assertEqual(case.words(case.numbers(row), 0), row)
+        self.assertEqual(case.numbers("B 10.0.0.9 64 130001"), [19, 0x0A000009, 64, 130001])
+        learned = [20, 0xEF000000, 8, 0x0A000001, 5, 150001, 1]
+        self.assertEqual(case.numbers("L 239.0.0.0/8 10.0.0.1 5 150001 kept"), learned)
 
     def test_answers(self):
         for words in ("done", "refused 24", *(f"ignored {name}" for name in run.IGNORED)):
@@ -58,6 +69,7 @@ class Numbers(unittest.TestCase):
             (run.prefix, ("10.0.0.0", "10.0.0.0/", "10.0.0.0/4294967296")),
             (run.packet, ("4", "4g", " 45")), (run.numeral, ("-1", "+1", "4294967296", "1.0")),
             (run.route, ("10.0.0.0/8 10.0.0.1 0 1", "10.0.0.0/8 10.0.0.1 0 1 2 3")),
+            (run.candidate, ("239.0.0.0/8 10.0.0.1 5", "239.0.0.0/8 10.0.0.1 5 30 1", "239.0.0.0/8 10.0.0.1 5 -1")),
         ):
             for text in texts:
                 with self.subTest(text), self.assertRaises(ValueError):
@@ -69,6 +81,9 @@ class Numbers(unittest.TestCase):
         frame = run.event_kind({"do": "frame", "iface": 1, "hex": "AB"})
         self.assertEqual(frame, 'EventKind.Frame (record { number = 1 }) (from_hex (codes "ab"))')
         self.assertEqual(run.listing(["1", "2"]), "(1 ∷ 2 ∷ [])")
+        candidates = run.event_kind({"do": "candidates", "list": ["239.0.0.0/8 10.0.0.1 5 30"]})
+        self.assertEqual(candidates, "EventKind.RpCandidates (record { prefix = (record { address = (addr 4009754624); "
+                         "length = 8 }); rp = (addr 167772161); priority = 5; hash_length = 30 } ∷ [])")
 
 
 # ---- a scenario beside its lines
@@ -379,19 +394,19 @@ class Told(unittest.TestCase):
         self.assertTrue(lines[1].startswith("b: set aside: b.toml isn't TOML"), lines)
 
 
-# Small scenarios with each kind of move, with older hosts and older queriers, RPs that share an address, a guard,
-# reloads and a restart.
-SAMPLE = ("anycast_on_its_link", "one_join", "a_restart", "two_routers", "frames_once_more", "a_host_of_version_one",
-          "an_older_querier", "a_guarded_register", "a_reload_of_an_address", "a_reload_with_older_hosts",
-          "refused_and_ignored", "routes_that_are_refused")
+# Small scenarios with each kind of move, with older hosts and older queriers, RPs that share an address, are learned or
+# are chosen of candidates, a guard, reloads and a restart.
+SAMPLE = ("anycast_on_its_link", "bsr_a_learned_rp", "one_join", "a_restart", "two_routers", "frames_once_more",
+          "a_host_of_version_one", "an_older_querier", "a_guarded_register", "a_reload_of_an_address",
+          "a_reload_with_older_hosts", "candidates_of_one_range", "refused_and_ignored", "routes_that_are_refused")
 
 
 class Sample(unittest.TestCase):
     def test_it_has_each_kind_of_move(self):
         moves = [move for name in SAMPLE for move in tomllib.loads((stored.DATA / f"{name}.toml").read_text())["move"]]
         self.assertEqual({move["do"] for move in moves}, {
-            "advance", "carry", "deliver", "down", "frame", "reload", "restart", "routes", "rps", "settle", "unicast",
-            "up"})
+            "advance", "candidates", "carry", "deliver", "down", "frame", "reload", "restart", "routes", "rps",
+            "settle", "unicast", "up"})
 
 
 @unittest.skipUnless(os.environ.get("KERNEL"), "KERNEL=1 asks the kit's kernel")

@@ -99,7 +99,7 @@ class Tables(unittest.TestCase):
     def test_so_is_one_of_a_configuration_above_the_numbers_of_others(self):
         self.with_answer(80, 40)
         self.assertEqual(self.ran("--write")[0], 0)
-        self.assertEqual(self.holders("|| answer == VIQ_BAD_OPTION;"), {"include/viqeshor/viqeshor.h"})
+        self.assertEqual(self.holders(" answer == VIQ_BAD_OPTION;"), {"include/viqeshor/viqeshor.h"})
         self.assertEqual(self.holders(", Answer.BAD_OPTION)"), {"bindings/python/src/viqeshor/__init__.py"})
         self.assertEqual(self.holders("refusal_number Refusal.BadOption = 80"), {"crates/pim_ip/specs/Refusal.antt"})
 

@@ -23,6 +23,7 @@ NAMES = {
     "UpstreamColumns": "viq_upstream_row", "RptColumns": "viq_rpt_row", "ActiveColumns": "viq_active_row",
     "CRow": "viq_core_row", "GivenCall": "viq_call", "ListenerHandle": "viq_core_bsr", "CElected": "viq_bsr_elected",
     "LearnedRow": "viq_bsr_rp", "PartRow": "viq_bsr_part", "GivenRpSet": "viq_rp_set",
+    "GivenCandidate": "viq_candidate",
 }
 # A place is a pointer beside what takes no room.
 TYPES = {"u8": "uint8_t", "u32": "uint32_t", "u64": "uint64_t", "usize": "size_t", "bool": "bool", "Place": "void *",

@@ -68,6 +68,8 @@ KINDS = {
     "role": plain("AssertRole", "bool", "bool", python="bool", tools="str", is_c="is_loser({})",
                   spec="is_loser_role {}", line="printed_role {}", let="let {n} = role_name({n});"),
     "version": plain(*NUMBER, tools="str"),
+    "prefix": plain(*NUMBER, tools="str"),
+    "standing": plain(*NUMBER, tools="str"),
 }
 # What a column is, where nothing is said of it.
 USUAL = {"iface": "the interface", "group": "G", "source": "S"}
@@ -128,6 +130,7 @@ class Row:
     library: str = ""
     member: str = ""
     keyed: bool = False
+    only_printed: bool = False
 
     def __post_init__(self) -> None:
         self.library = self.library or self.name

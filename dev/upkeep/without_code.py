@@ -23,11 +23,14 @@ PARTS = {
     "law_settled": ("Laws", "Ready"), "law_events": ("Locality", "Rest", "Scopes"),
     "law_states": ("Reload", "Reloading", "Placing"), "pim_net": ("Reloading",),
     "pim_anycast": ("Sets", "Passed", "Announced", "Joined"), "pim_lab": ("Stops",),
+    "pim_bootstrap": ("Advertisements", "Bootstraps", "Views"),
+    "pim_bsr": ("Choice", "Table", "Hearing", "Joined"),
     "igmp_older_saved": ("Hosts",), "pim_session": ("Front", "Placed", "Reloaded"), "pim_guard": ("Guard",),
     "pim_runs": ("Transcript",),
 }
 # The files of these whose types are left.
-TYPES = {"igmp_older_saved": ("host",), "pim_anycast": ("front", "set")}
+TYPES = {"igmp_older_saved": ("host",), "pim_anycast": ("front", "set"),
+         "pim_bootstrap": ("advertisement", "bootstrap"), "pim_bsr": ("choice", "heard", "learned")}
 # The crate with what a scenario's moves do.
 LAB_CRATE = "lab_runs"
 TYPE = re.compile(
@@ -141,9 +144,12 @@ def scratch_repository(folder: Path, above: str) -> None:
 
 def listed() -> Iterator[str]:
     """The lines of crates.txt: each crate with what it names."""
+    named = {}
     for line in (ROOT / "crates.txt").read_text(encoding="utf-8").splitlines():
         crate, _, names = line.partition(":")
+        named[crate] = names.split()
         if crate in WHOLE:
-            yield f"{crate}: {' '.join(name for name in names.split() if name in (*WHOLE, *OF_KIT))}"
+            yield f"{crate}: {' '.join(name for name in named[crate] if name in (*WHOLE, *OF_KIT))}"
     for place, crate in enumerate([*PARTS, LAB_CRATE]):
-        yield f"{crate}: {' '.join([*WHOLE, *list(PARTS)[:place]])}"
+        of_kit = [name for name in OF_KIT if name in named.get(crate, [])] if crate in TYPES else []
+        yield f"{crate}: {' '.join([*of_kit, *WHOLE, *list(PARTS)[:place]])}"

@@ -95,8 +95,8 @@ VIQ_NOT_NULL(3)
 bool viq_changed_source(const struct viq_router *router, size_t index, struct viq_source_group *name);
 
 /* Whether the row that viq_offload reads for a source, with a fact or without one, may have changed at the last event.
- * Where it answers false, each packet is decided as before. After new routes or RP ranges it is true for the sources for
- * which RP(G), the route to it or the route to S differs. It is true for a lost router, and for NULL. */
+ * Where it answers false, each packet is decided as before. After new routes, RP ranges or candidate RPs it is true for
+ * the sources for which RP(G), the route to it or the route to S differs. It is true for a lost router, and for NULL. */
 VIQ_READ_ANSWER
 bool viq_may_differ(const struct viq_router *router, uint32_t source, uint32_t group);
 

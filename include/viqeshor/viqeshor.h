@@ -66,7 +66,7 @@ extern "C" {
 /* The number of what a compiled program and a library have to agree on: the values, the calls and the numbers of this
  * header and of plane.h. Wherever one of them changes, this number changes. A program passes it to viq_new, viq_restore,
  * viq_bsr_new and viq_bsr_restore, which refuse any other. */
-#define VIQ_ABI 11
+#define VIQ_ABI 12
 
 /* The library's number: VIQ_ABI as it was built with. */
 uint32_t viq_abi(void);
@@ -125,6 +125,7 @@ enum {
     VIQ_CONFIGURED_RANGES = 38,
     VIQ_OWN_ADDRESSES = 70,
     VIQ_PLACES_DONT_FIT = 73,
+    VIQ_BAD_CANDIDATES = 76,
     VIQ_BAD_RP_SET = 74,
 
     VIQ_MEMORY = 40, /* memory was refused, and nothing has changed: the call may be made again */
@@ -174,7 +175,7 @@ enum {
  * event or an earlier one. */
 static inline bool viq_is_refused(uint32_t answer) {
     return (answer > VIQ_DONE && answer < VIQ_MEMORY) || answer == VIQ_OWN_ADDRESSES ||
-           answer == VIQ_PLACES_DONT_FIT || answer == VIQ_BAD_RP_SET;
+           answer == VIQ_PLACES_DONT_FIT || answer == VIQ_BAD_CANDIDATES || answer == VIQ_BAD_RP_SET;
 }
 static inline bool viq_is_ignored(uint32_t answer) { return answer > VIQ_IGNORED; }
 static inline bool viq_is_lost(uint32_t answer) { return answer == VIQ_LOST || answer == VIQ_FAILED; }
@@ -195,6 +196,7 @@ const char *viq_answer_text(uint32_t answer);
 #define VIQ_MOST_ADDRESSES 16
 #define VIQ_MOST_ROUTES 100000
 #define VIQ_MOST_RANGES 256
+#define VIQ_MOST_CANDIDATES 256
 
 struct viq_interface {
     uint32_t address;           /* the router's, below 224.0.0.0 and not 0 */
@@ -220,6 +222,15 @@ struct viq_range {
     uint32_t rp;
 };
 
+/* An RP of a range of groups, which may have several, by viq_candidates: of each group one of them is chosen. */
+struct viq_candidate {
+    uint32_t prefix;      /* in 224.0.0.0/4, with no host bits */
+    uint32_t length;      /* 4 to 32 */
+    uint32_t rp;          /* each once for a prefix */
+    uint32_t priority;    /* at most 255; the lower is preferred */
+    uint32_t hash_length; /* bits of the hash function's mask, at most 32; 30 is usual */
+};
+
 struct viq_settings {
     uint32_t limit;                      /* of facts, 1 to 1,000,000 */
     uint32_t robustness;                 /* 2 to 7 */
@@ -242,33 +253,38 @@ uint32_t viq_new(struct viq_router **router, uint32_t abi, const struct viq_sett
                  const struct viq_interface *interfaces, size_t interface_count, const struct viq_route *routes,
                  size_t route_count, const struct viq_range *ranges, size_t range_count);
 
-/* Why an item of a list of routes or ranges can't stand. */
+/* Why an item of a list of routes, ranges or candidates can't stand. */
 enum {
-    VIQ_ITEM_LENGTH = 1,     /* a prefix longer than 32, or of groups and shorter than 4 */
-    VIQ_ITEM_HOST_BITS = 2,  /* its prefix has host bits */
-    VIQ_ITEM_INTERFACE = 3,  /* no interface has its number */
-    VIQ_ITEM_NO_HOST = 4,    /* its next hop or RP is no host's address */
-    VIQ_ITEM_OWN = 5,        /* its next hop is an address of the router */
-    VIQ_ITEM_PREFERENCE = 6, /* it is above 0x7ffffffe */
-    VIQ_ITEM_NO_GROUPS = 7,  /* its prefix isn't in 224.0.0.0/4 */
-    VIQ_ITEM_TWICE = 8,      /* one before it has the same prefix */
-    VIQ_ITEM_COUNT = 9       /* there are too many: it is the first that is */
+    VIQ_ITEM_LENGTH = 1,       /* a prefix longer than 32, or of groups and shorter than 4 */
+    VIQ_ITEM_HOST_BITS = 2,    /* its prefix has host bits */
+    VIQ_ITEM_INTERFACE = 3,    /* no interface has its number */
+    VIQ_ITEM_NO_HOST = 4,      /* its next hop or RP is no host's address */
+    VIQ_ITEM_OWN = 5,          /* its next hop is an address of the router */
+    VIQ_ITEM_PREFERENCE = 6,   /* it is above 0x7ffffffe */
+    VIQ_ITEM_NO_GROUPS = 7,    /* its prefix isn't in 224.0.0.0/4 */
+    VIQ_ITEM_TWICE = 8,        /* one before it has the same prefix */
+    VIQ_ITEM_COUNT = 9,        /* there are too many: it is the first that is */
+    VIQ_ITEM_PRIORITY = 10,    /* its priority is above 255 */
+    VIQ_ITEM_HASH_LENGTH = 11, /* its hash mask has more than 32 bits */
+    VIQ_ITEM_RP_TWICE = 12     /* one before it has the same prefix and the same RP */
 };
 struct viq_refused_at {
     size_t index;    /* of the first that can't stand, counted from 0 */
     uint32_t reason; /* VIQ_ITEM_.. */
 };
 
-/* Tell which route or range is refused, and why, after VIQ_BAD_ROUTES, VIQ_CONFIGURED_ROUTES, VIQ_BAD_RANGES or
- * VIQ_CONFIGURED_RANGES. The interfaces, of which the addresses are read, and the addresses of no interface are those of
- * the router. They answer false where all can stand. Where memory is refused, a route that repeats another isn't looked
- * for. */
+/* Tell which route, range or candidate is refused, and why, after VIQ_BAD_ROUTES, VIQ_CONFIGURED_ROUTES,
+ * VIQ_BAD_RANGES, VIQ_CONFIGURED_RANGES or VIQ_BAD_CANDIDATES. The interfaces, of which the addresses are read, and the
+ * addresses of no interface are those of the router. They answer false where all can stand. Where memory is refused, a
+ * route that repeats another isn't looked for. */
 VIQ_READ_ANSWER VIQ_NOT_NULL(7)
 bool viq_routes_refused_at(const struct viq_interface *interfaces, size_t interface_count, const uint32_t *addresses,
                            size_t address_count, const struct viq_route *routes, size_t count,
                            struct viq_refused_at *at);
 VIQ_READ_ANSWER VIQ_NOT_NULL(3)
 bool viq_ranges_refused_at(const struct viq_range *ranges, size_t count, struct viq_refused_at *at);
+VIQ_READ_ANSWER VIQ_NOT_NULL(3)
+bool viq_candidates_refused_at(const struct viq_candidate *candidates, size_t count, struct viq_refused_at *at);
 
 /* The meaning of such a reason in a few words; never NULL. */
 const char *viq_refused_text(uint32_t reason);
@@ -278,9 +294,9 @@ const char *viq_refused_text(uint32_t reason);
  * or down. Then settings, routes and ranges are those of the configuration, and what follows is done as after an event;
  * the present stays. A Hello leaves at once on an interface that is up and whose address, priority or delays differ;
  * before it, where the address differs, one with holdtime 0 leaves from the old address.
- * Where the limit is below the number of facts they all stay, and an event that needs a new one is refused until there is
- * room. The interfaces that stay keep what viq_older and viq_query_version set, and the groups in an older mode; one that
- * is added is as in a new router.
+ * Candidate RPs stay. Where the limit is below the number of facts they all stay, and an event that needs a new one is
+ * refused until there is room. The interfaces that stay keep what viq_older and viq_query_version set, and the groups
+ * in an older mode; one that is added is as in a new router.
  *
  * It answers VIQ_DONE; a refusal of 30 to 38 or 70 as viq_new does, VIQ_BAD_RP_SET where the sets of viq_anycast don't
  * fit, VIQ_UNTAKEN or VIQ_MEMORY, where nothing has changed; VIQ_LOST, VIQ_FAILED or VIQ_NO_ROUTER. Once it is done,
@@ -318,11 +334,11 @@ void viq_end(struct viq_router *router);
 
 /* ---- a state as bytes; SAVED.md describes them */
 
-/* Saves the router's state, which stays as it is: its configuration, its time, its routes and ranges, and all its facts
- * with the expiries of their timers, and the groups in an older mode. `size` gets how many bytes there are. As many of
- * them as room_length allows are written into `room`, and the rest of `room` is unchanged. So the call tells the size
- * where room_length is 0; the size is the same until the next event, viq_seen, viq_keep, viq_older or viq_reload. It
- * answers VIQ_DONE; VIQ_MEMORY, VIQ_FAILED or VIQ_NO_ROUTER, where nothing is written.
+/* Saves the router's state, which stays as it is: its configuration, its time, its routes, ranges and candidate RPs,
+ * and all its facts with the expiries of their timers, and the groups in an older mode. `size` gets how many bytes
+ * there are. As many of them as room_length allows are written into `room`, and the rest of `room` is unchanged. So the
+ * call tells the size where room_length is 0; the size is the same until the next event, viq_seen, viq_keep, viq_older
+ * or viq_reload. It answers VIQ_DONE; VIQ_MEMORY, VIQ_FAILED or VIQ_NO_ROUTER, where nothing is written.
  *
  * These aren't saved, and a program keeps what it needs of them: what the clock showed at time 0, the source of draws,
  * packets that are untaken, rows that were read, and what viq_guard, viq_anycast, viq_older and viq_query_version set. */
@@ -344,10 +360,10 @@ uint32_t viq_restore(struct viq_router **router, uint32_t abi, const uint8_t *by
  * While packets of the event before are untaken each event answers VIQ_UNTAKEN, and nothing changes.
  *
  * Where memory is refused for an event the router is lost: it answers VIQ_LOST, and VIQ_FAILED to every later event.
- * The event didn't happen, and nothing of it is to be sent. Routes and ranges are copied before the router takes them:
- * where memory is refused for the copy, the call answers VIQ_MEMORY, nothing has changed, and the calls below return
- * what they returned before. An event that is ignored, or refused for its bytes, its timestamp or its interface, takes
- * no memory, and is answered neither VIQ_LOST nor VIQ_MEMORY. */
+ * The event didn't happen, and nothing of it is to be sent. Routes, ranges and candidates are copied before the router
+ * takes them: where memory is refused for the copy, the call answers VIQ_MEMORY, nothing has changed, and the calls
+ * below return what they returned before. An event that is ignored, or refused for its bytes, its timestamp or its
+ * interface, takes no memory, and is answered neither VIQ_LOST nor VIQ_MEMORY. */
 
 /* Time passes up to `moment`, which may not be before the present: each timer that expires by then fires. */
 VIQ_READ_ANSWER
@@ -394,6 +410,17 @@ VIQ_READ_ANSWER
 uint32_t viq_routes(struct viq_router *router, const struct viq_route *routes, size_t count, struct viq_draw draw);
 VIQ_READ_ANSWER
 uint32_t viq_ranges(struct viq_router *router, const struct viq_range *ranges, size_t count, struct viq_draw draw);
+
+/* All candidate RPs are replaced, at most VIQ_MOST_CANDIDATES; a new router has none. The RP ranges stay, as the
+ * candidates do with viq_ranges and viq_reload.
+ *
+ * A range of groups may have several candidates. Of those whose prefix contains a group the one is chosen that has the
+ * longest prefix, of these the lowest number as its priority, then the greatest value of the hash function of RFC 7761
+ * (section 4.7.2) for the group, and then the highest address. Where a range of viq_ranges contains the group too, the
+ * longer prefix of the two decides, and of one prefix the range has the RP. viq_tree tells the RP of a group. */
+VIQ_READ_ANSWER
+uint32_t viq_candidates(struct viq_router *router, const struct viq_candidate *candidates, size_t count,
+                        struct viq_draw draw);
 
 /* ---- what is to be sent: the packets of the last event, or of viq_reload since, that are untaken
  *
@@ -769,7 +796,7 @@ uint32_t viq_guard(struct viq_router *router, uint32_t on);
 
 /* A set of routers that share an address, as one of them knows it. */
 struct viq_rp_set {
-    uint32_t shared;        /* an address of the router, and the RP of the set's groups by viq_ranges; no other set's */
+    uint32_t shared;        /* an address of the router, and the RP of the set's groups; no other set's */
     uint32_t own;           /* an address of the router by which the others know it; shared in no set */
     const uint32_t *others; /* the own addresses of the others: hosts', none twice, none of the router */
     size_t other_count;
@@ -796,26 +823,32 @@ uint32_t viq_anycast(struct viq_router *router, const struct viq_rp_set *sets, s
  *
  * The routers of a domain can learn their RPs of one of them, the bootstrap router (BSR), whose Bootstrap messages they
  * send on from neighbour to neighbour. A listener hears these messages before a router, keeps what they say for as long
- * as they say it, and says which ranges the router is to have beside the configured ones. A configured range wins over
+ * as they say it, and says which RPs the router is to have beside the configured ranges. A configured range wins over
  * a learned one of the same prefix. Of the RPs of one learned range the router is given the one that a hash of the
- * range's prefix chooses. The router is no candidate BSR or RP, and admin scope zones aren't built. Without a listener
- * nothing of this happens.
+ * range's prefix chooses, in a range; or, where viq_bsr_choose says so, all of them as candidates, of which it chooses
+ * for each group. The router is no candidate BSR or RP, and admin scope zones aren't built. Without a listener nothing of
+ * this happens.
  *
  * A program that has a listener makes these calls, in this order:
  *
  * - A packet on a link goes to the router by viq_frame. Where this answers VIQ_OTHER_TYPE the packet goes to
  *   viq_bsr_hear. What that sends on is taken by viq_take, as after an event, and leaves first. Where it says that the
- *   ranges moved, viq_bsr_give follows, with the draw of the packet's event.
+ *   RPs moved, viq_bsr_give follows, with the draw of the packet's event.
  * - Time passes to a moment: while viq_bsr_next isn't later than the moment, viq_advance to viq_bsr_next, viq_bsr_pass
- *   to the same, and viq_bsr_give where that says that the ranges moved. Then viq_advance to the moment, and
- *   viq_bsr_pass to the moment. Time is to pass at the sooner one of viq_next_moment and viq_bsr_next.
- * - Other configured ranges are set by viq_bsr_ranges, in place of viq_ranges.
+ *   to the same, and viq_bsr_give where that says that the RPs moved. Then viq_advance to the moment, and viq_bsr_pass
+ *   to the moment. Time is to pass at the sooner one of viq_next_moment and viq_bsr_next.
+ * - Other configured ranges are set by viq_bsr_ranges, in place of viq_ranges. Where an RP is chosen for each group,
+ *   viq_bsr_give follows where it is done: beside more ranges, or under a lower limit, there may be fewer candidates.
  * - Another configuration is set by viq_reload, or viq_reload_places, with the ranges that the router has: those that
- *   were configured before, and those of viq_bsr_rp that it is given. Then viq_bsr_ranges sets the new configured ones.
- * - A listener that comes is made of the ranges that the router has. One that goes leaves them to viq_ranges.
+ *   were configured before, and where an RP is chosen for a range, those of viq_bsr_rp that it is given; candidates stay.
+ *   Then viq_bsr_ranges sets the new configured ones.
+ * - Another choice: viq_bsr_choose, viq_bsr_give, and then what the former choice gave is taken back: for each group by
+ *   viq_ranges with the configured ranges, for a range by viq_candidates with none.
+ * - A listener that comes is made of the ranges that the router has. One that goes leaves them to viq_ranges, and no
+ *   candidates.
  *
- * What a listener knows isn't saved by viq_save, but by viq_bsr_save; a restored router has the ranges that it was given
- * last, and goes on with the listener that viq_bsr_restore makes of what was saved with it. */
+ * What a listener knows isn't saved by viq_save, but by viq_bsr_save; a restored router has the ranges and the candidates
+ * that it was given last, and goes on with the listener that viq_bsr_restore makes of what was saved with it. */
 
 /* A listener. Whoever made it by viq_bsr_new or viq_bsr_restore frees it by viq_bsr_end. A listener may be NULL, as a router may. At any
  * time at most one call uses a listener. */
@@ -825,16 +858,18 @@ struct viq_bsr;
  * fragments are missing, 1 to VIQ_MOST_RANGES; a router has at most VIQ_MOST_RANGES ranges, so that fewer are kept
  * where more are configured. The ranges are those that the router has. Until `refresh_end`, a moment, one message may
  * come that a neighbour sends to a router which has just started (section 3.5.1): 60,000 ms after the router started,
- * or 0 for none. The second argument is VIQ_ABI. It answers VIQ_DONE, VIQ_NO_SETTING for another limit, VIQ_MEMORY or
- * VIQ_OTHER_ABI. It writes what `bsr` points to, and doesn't read it: the new listener, or NULL where there is none. */
+ * or 0 for none. An RP is chosen for a range. The second argument is VIQ_ABI. It answers VIQ_DONE, VIQ_NO_SETTING for
+ * another limit, VIQ_MEMORY or VIQ_OTHER_ABI. It writes what `bsr` points to, and doesn't read it: the new listener, or
+ * NULL where there is none. */
 VIQ_READ_ANSWER VIQ_NOT_NULL(1)
 uint32_t viq_bsr_new(struct viq_bsr **bsr, uint32_t abi, uint32_t limit, const struct viq_range *ranges, size_t count,
                      uint64_t refresh_end);
 
-/* Saves all that the listener knows, which stays as it is: the configured ranges and the limit, the elected BSR, the RPs
- * in force and those of messages of which fragments are missing, with the moments at which they expire, and the last
- * message. `size` gets how many bytes there are. As many of them as room_length allows are written into `room`, and the
- * rest of `room` is unchanged. It answers VIQ_DONE; VIQ_MEMORY or VIQ_NO_LISTENER, where nothing is written. */
+/* Saves all that the listener knows, which stays as it is: the configured ranges, the limit and the choice, the
+ * elected BSR, the RPs in force and those of messages of which fragments are missing, with the moments at which they
+ * expire, and the last message. `size` gets how many bytes there are. As many of them as room_length allows are
+ * written into `room`, and the rest of `room` is unchanged. It answers VIQ_DONE; VIQ_MEMORY or VIQ_NO_LISTENER, where
+ * nothing is written. */
 VIQ_READ_ANSWER VIQ_NOT_NULL(4)
 uint32_t viq_bsr_save(const struct viq_bsr *bsr, uint8_t *room, size_t room_length, size_t *size);
 
@@ -850,7 +885,7 @@ uint32_t viq_bsr_restore(struct viq_bsr **bsr, uint32_t abi, const uint8_t *byte
 void viq_bsr_end(struct viq_bsr *bsr);
 
 /* Hears a packet that came on an interface, and to which viq_frame answered VIQ_OTHER_TYPE. It is no event: of the
- * router it changes what is to be sent alone. `moved` gets whether the router is to be given other ranges; it gets
+ * router it changes what is to be sent alone. `moved` gets whether the router is to be given other RPs; it gets
  * false with each other answer than VIQ_DONE.
  *
  * VIQ_DONE: a Bootstrap counts, and is sent on as it came, on each interface with neighbours. With all others nothing
@@ -863,8 +898,10 @@ uint32_t viq_bsr_hear(struct viq_bsr *bsr, struct viq_router *router, uint32_t i
                       size_t length, bool *moved);
 
 /* An event of the router: its ranges are replaced by those that the listener has for it, the configured ones and one of
- * each learned range that isn't configured. The listener stays as it is. It answers as viq_ranges does, VIQ_BAD_RANGES
- * exactly where viq_ranges would with the configured ones alone; or VIQ_NO_LISTENER, where nothing has changed. */
+ * each learned range that isn't configured. Where an RP is chosen for each group, its candidates are replaced instead, by
+ * all RPs in force. The listener stays as it is. It answers as viq_ranges does, VIQ_BAD_RANGES exactly where viq_ranges
+ * would with the configured ones alone, and as viq_candidates, but never VIQ_BAD_CANDIDATES; or VIQ_NO_LISTENER, where
+ * nothing has changed. */
 VIQ_READ_ANSWER
 uint32_t viq_bsr_give(const struct viq_bsr *bsr, struct viq_router *router, struct viq_draw draw);
 
@@ -873,19 +910,35 @@ VIQ_READ_ANSWER
 uint64_t viq_bsr_next(const struct viq_bsr *bsr);
 
 /* Time passed to a moment: RPs, fragments and the elected BSR are forgotten that have expired by then. `moved` gets
- * whether the router is to be given other ranges. It answers VIQ_DONE; VIQ_MEMORY, where nothing has changed, and which
+ * whether the router is to be given other RPs. It answers VIQ_DONE; VIQ_MEMORY, where nothing has changed, and which
  * isn't answered where no RP in force expired; or VIQ_NO_LISTENER. */
 VIQ_READ_ANSWER VIQ_NOT_NULL(3)
 uint32_t viq_bsr_pass(struct viq_bsr *bsr, uint64_t moment, bool *moved);
 
-/* Other configured ranges, and another limit on the RPs that are kept, as in viq_bsr_new. It is an event of the router:
- * its ranges are replaced by these and the learned ones beside them. Where that answers VIQ_DONE the listener has the
- * new configured ranges and the new limit, and RPs for which there is no room then are forgotten, the newest first;
- * else it stays as it is. It answers as viq_ranges does, VIQ_BAD_RANGES exactly where viq_ranges would with the new
- * ones alone; VIQ_NO_SETTING for another limit or VIQ_NO_LISTENER, where nothing has changed. */
+/* Other configured ranges, and another limit on the RPs that are kept, as in viq_bsr_new. It is an event of the
+ * router: its ranges are replaced by these, and where an RP is chosen for a range by the learned ones beside them.
+ * Where that answers VIQ_DONE the listener has the new configured ranges and the new limit, and RPs for which there is
+ * no room then are forgotten, the newest first; else it stays as it is. It answers as viq_ranges does, VIQ_BAD_RANGES
+ * exactly where viq_ranges would with the new ones alone; VIQ_NO_SETTING for another limit or VIQ_NO_LISTENER, where
+ * nothing has changed. */
 VIQ_READ_ANSWER
 uint32_t viq_bsr_ranges(struct viq_bsr *bsr, struct viq_router *router, uint32_t limit, const struct viq_range *ranges,
                         size_t count, struct viq_draw draw);
+
+/* What an RP is chosen for, of several that a learned range has. */
+enum {
+    VIQ_FOR_RANGE = 0, /* for the range, by the hash of its prefix: all its groups have one RP, as with FRR */
+    VIQ_FOR_GROUP = 1  /* for each group, by the hash of the group (RFC 7761, section 4.7.2) */
+};
+
+/* Has an RP chosen for something else. It is no event: what the router is given then says the page above. It answers
+ * VIQ_DONE; VIQ_NO_SETTING where the choice is none of the two, or VIQ_NO_LISTENER, where nothing has changed. */
+VIQ_READ_ANSWER
+uint32_t viq_bsr_choose(struct viq_bsr *bsr, uint32_t choice);
+
+/* What an RP is chosen for; for NULL a range. */
+VIQ_READ_ANSWER
+uint32_t viq_bsr_choice(const struct viq_bsr *bsr);
 
 /* How many ranges are configured; and one of them, counted from 0. viq_bsr_range answers false, and writes nothing, where
  * there is none of that number. */
@@ -912,7 +965,7 @@ struct viq_bsr_rp {
     uint32_t rp;
     uint32_t priority;    /* 0 to 255; the lower is preferred */
     uint32_t hash_length; /* bits of the hash function's mask, 0 to 32 */
-    bool is_given;        /* the router is given it: its range isn't configured, and it is chosen of its range */
+    bool is_given;        /* the router is given it: chosen of its range, which isn't configured, or as a candidate */
     uint64_t end;         /* ms, when its holdtime is over */
 };
 
@@ -1020,15 +1073,19 @@ VIQ_READ_ANSWER VIQ_NOT_NULL(1) VIQ_NOT_NULL(6)
 uint32_t viq_record(const struct viq_call *call, const uint8_t *packet, size_t length, uint8_t *room,
                     size_t room_length, size_t *size);
 
-/* Write the record of viq_routes, of viq_ranges, of viq_anycast, and of another configuration, without a map of places
- * and by one, in the same way, whatever the letter is. A list that viq_routes, viq_ranges, viq_anycast, viq_new or
- * viq_reload_places refuses for its length is recorded as one that is refused alike. */
+/* Write the record of viq_routes, of viq_ranges, of viq_candidates, of viq_anycast, and of another configuration,
+ * without a map of places and by one, in the same way, whatever the letter is. A list that viq_routes, viq_ranges,
+ * viq_candidates, viq_anycast, viq_new or viq_reload_places refuses for its length is recorded as one that is refused
+ * alike. */
 VIQ_READ_ANSWER VIQ_NOT_NULL(1) VIQ_NOT_NULL(6)
 uint32_t viq_record_routes(const struct viq_call *call, const struct viq_route *routes, size_t count, uint8_t *room,
                            size_t room_length, size_t *size);
 VIQ_READ_ANSWER VIQ_NOT_NULL(1) VIQ_NOT_NULL(6)
 uint32_t viq_record_ranges(const struct viq_call *call, const struct viq_range *ranges, size_t count, uint8_t *room,
                            size_t room_length, size_t *size);
+VIQ_READ_ANSWER VIQ_NOT_NULL(1) VIQ_NOT_NULL(6)
+uint32_t viq_record_candidates(const struct viq_call *call, const struct viq_candidate *candidates, size_t count,
+                               uint8_t *room, size_t room_length, size_t *size);
 VIQ_READ_ANSWER VIQ_NOT_NULL(1) VIQ_NOT_NULL(6)
 uint32_t viq_record_anycast(const struct viq_call *call, const struct viq_rp_set *sets, size_t count, uint8_t *room,
                             size_t room_length, size_t *size);

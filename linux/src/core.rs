@@ -8,15 +8,15 @@ use crate::packet::{self, is_pim, HELLO};
 use crate::plane::Row;
 use crate::ports::{self, Places, Port};
 use crate::recorder::{answer_of, Configuration, Place, Recorder, Set};
-use crate::settings::{RpSettings, Settings};
+use crate::settings::{BsrSettings, RpSettings, Settings};
 use log::{error, info};
 use rand::rngs::{OsRng, StdRng};
 use rand::{Rng, RngCore, SeedableRng};
 use std::collections::{BTreeMap, BTreeSet};
 use std::net::Ipv4Addr;
 use viqeshor::{
-    Bsr, Elected, Error, Heard, LearnedPart, LearnedRp, Link, NeighbourRow, OlderRow, Range, Reason, Refusal, Route,
-    Router, RpSet, SourceTree, Table, TableRow, Target, Tree, Verdict,
+    Bsr, Candidate, Choice, Elected, Error, Heard, LearnedPart, LearnedRp, Link, NeighbourRow, OlderRow, Range, Reason,
+    Refusal, Route, Router, RpSet, SourceTree, Table, TableRow, Target, Tree, Verdict,
 };
 
 /// A Hello that an event triggers leaves after a part of Triggered_Hello_Delay, in ms (RFC 7761, 4.3.1 and 4.11), which
@@ -41,6 +41,8 @@ pub enum Event<'a> {
     Ranges(&'a [Range]),
     /// The RP ranges are replaced by these: those that are learned of Bootstraps beside those of the file.
     Learned(&'a [Range]),
+    /// The candidate RPs are replaced by these: those that are learned of Bootstraps, where one is chosen for each group.
+    Candidates(&'a [Candidate]),
     /// The kernel saw a packet of a source on an interface.
     Seen(u32, Key),
 }
@@ -415,6 +417,7 @@ impl Core {
                 Some((bsr, _)) => bsr.give(router, draw),
                 None => Ok(Verdict::Done),
             },
+            Event::Candidates(candidates) => router.set_candidates(candidates, draw),
             Event::Seen(iface, key) => router.seen(iface, key.source, key.group, draw),
         }
     }
@@ -432,11 +435,26 @@ impl Core {
         self.listener.is_some()
     }
 
-    /// They are heard from here on, beside these ranges, which the router has; until a moment, in ms, a neighbour may say
-    /// at once what it learned before.
-    pub fn listen(&mut self, limit: u32, ranges: &[Range], refresh_end: u64) -> Result<(), Fatal> {
-        self.listener = Some((Bsr::new(limit, ranges, refresh_end).map_err(Fatal::Router)?, limit));
+    /// They are heard from here on as the settings say, beside these ranges, which the router has; until a moment, in ms,
+    /// a neighbour may say at once what it learned before.
+    pub fn listen(&mut self, settings: &BsrSettings, ranges: &[Range], refresh_end: u64) -> Result<(), Fatal> {
+        let mut bsr = Bsr::new(settings.limit, ranges, refresh_end).map_err(Fatal::Router)?;
+        bsr.set_choice(settings.choice).map_err(Fatal::Router)?;
+        self.listener = Some((bsr, settings.limit));
         Ok(())
+    }
+
+    /// What one of several RPs of a range is chosen for, where they are heard.
+    pub fn choice(&self) -> Option<Choice> {
+        self.listener.as_ref().map(|(bsr, _)| bsr.choice())
+    }
+
+    /// It is chosen for something else, as the router is to be given at once.
+    pub fn choose(&mut self, choice: Choice) -> Result<(), Fatal> {
+        match &mut self.listener {
+            Some((bsr, _)) => bsr.set_choice(choice).map_err(Fatal::Router),
+            None => Ok(()),
+        }
     }
 
     /// What was known of them, beside the ranges that the router then had, is known again, and as many RPs are kept from the
@@ -498,6 +516,11 @@ impl Core {
     /// The ranges that the router is to have, where they are heard.
     pub fn given(&self) -> Vec<Range> {
         self.listener.as_ref().map_or_else(Vec::new, |(bsr, _)| bsr.given())
+    }
+
+    /// The candidate RPs that the router is to have, where they are heard.
+    pub fn candidates(&self) -> Vec<Candidate> {
+        self.listener.as_ref().map_or_else(Vec::new, |(bsr, _)| bsr.candidates())
     }
 
     /// The RPs that are learned.

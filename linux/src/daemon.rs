@@ -143,7 +143,7 @@ impl Pace {
     }
 }
 
-pub use bootstraps::Rp;
+pub use bootstraps::{Chosen, Rp};
 pub use resumed::Way;
 
 pub struct Daemon {

@@ -83,7 +83,7 @@ enum What {
     /// Print what a running router knows
     Show {
         topic: Topic,
-        /// The address whose route `rpf` prints; of others a group, and a source of it
+        /// The address whose route `rpf` prints, the group whose RP `rp` prints; of others a group, and a source of it
         #[arg(num_args = 0..=2)]
         about: Vec<Ipv4Addr>,
         /// Print JSON

@@ -16,7 +16,7 @@ use time::OffsetDateTime;
 use viqeshor::{Call, Error, Interface, Range, Route, Router, RpSet, Settings, Target, Verdict};
 
 const MAGIC: &[u8; 4] = b"VQRC";
-const VERSION: u16 = 6;
+const VERSION: u16 = 7;
 const DONE: u32 = 0;
 /// What `viq_keep` answers where the source's timer doesn't run.
 const NO_TIMER: u32 = 52;
@@ -191,6 +191,7 @@ impl Recorder {
             Event::Down(iface) => Call { letter: kind(b'-'), iface, ..call }.put(&[], to),
             Event::Routes(routes) => call.put_routes(routes, to),
             Event::Ranges(ranges) | Event::Learned(ranges) => call.put_ranges(ranges, to),
+            Event::Candidates(candidates) => call.put_candidates(candidates, to),
             Event::Seen(iface, key) => {
                 let (source, group) = (key.source.into(), key.group.into());
                 Call { letter: kind(b's'), iface, source, group, ..call }.put(&[], to)
@@ -338,7 +339,7 @@ mod tests {
         recorder.end_turn(&mut router, &set, WAITS).unwrap();
         assert_eq!(recorder.due(), None);
         let summed = |bytes: Vec<u8>| [&bytes[..], &crc32fast::hash(&bytes).to_be_bytes()].concat();
-        let head = [b"VQRC\0\x06\0\0\0\0".as_slice(), &(state.len() as u64).to_be_bytes()].concat();
+        let head = [b"VQRC\0\x07\0\0\0\0".as_slice(), &(state.len() as u64).to_be_bytes()].concat();
         let mut wanted = [summed(head), state].concat();
         let words = |numbers: &[u32]| numbers.iter().flat_map(|number| number.to_be_bytes()).collect::<Vec<_>>();
         let record = |letter: u8, numbers: &[u32]| [vec![letter], words(numbers)].concat();

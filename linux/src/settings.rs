@@ -16,7 +16,7 @@ use std::fmt;
 use std::net::{Ipv4Addr, SocketAddr};
 use std::path::PathBuf;
 use toml::Spanned;
-use viqeshor::{OlderHosts, QueryVersion, Range, RpSet};
+use viqeshor::{Choice, OlderHosts, QueryVersion, Range, RpSet};
 
 /// Linux has 32 virtual interfaces, and the register tunnel is one.
 pub const MOST_INTERFACES: usize = 31;
@@ -32,6 +32,7 @@ const LONGEST_SOCKET: usize = 107;
 const ALL_GROUPS: Ipv4Addr = Ipv4Addr::new(224, 0, 0, 0);
 const OLDER_HOSTS: [(&str, OlderHosts); 3] =
     [("all", OlderHosts::All), ("v2", OlderHosts::VersionTwo), ("none", OlderHosts::Nobody)];
+const CHOICES: [(&str, Choice); 2] = [("range", Choice::Range), ("group", Choice::Group)];
 /// A query of IGMPv2 asks for answers within at most so many tenths of a second.
 const MOST_RESPONSE: u32 = 255;
 const USUAL_SOCKET: &str = "/run/viqeshord/control";
@@ -193,6 +194,8 @@ pub struct BsrSettings {
     pub limit: u32,
     /// The BSRs that are believed; all where there is no list.
     pub from: Option<Vec<Ipv4Addr>>,
+    /// What one of several RPs of a range is chosen for.
+    pub choice: Choice,
 }
 
 #[derive(Clone, Debug, PartialEq, Eq)]
@@ -300,6 +303,7 @@ struct BsrTable {
     listen: Option<bool>,
     limit: Whole,
     from: Option<Vec<Spanned<String>>>,
+    choice: Text,
 }
 
 #[derive(Deserialize, Default)]
@@ -792,7 +796,8 @@ impl Check<'_> {
         let of =
             |check: &mut Self, given: &Vec<_>| given.iter().filter_map(|it| check.reached(it, "the BSR")).collect();
         let from = table.from.as_ref().map(|given| of(self, given));
-        table.listen.unwrap_or(false).then_some(BsrSettings { limit, from })
+        let choice = self.one_of("choice", &table.choice, &CHOICES);
+        table.listen.unwrap_or(false).then_some(BsrSettings { limit, from, choice })
     }
 
     fn routes(&mut self, table: &RoutesTable) -> RouteSettings {
@@ -1098,14 +1103,19 @@ mod tests {
     fn bootstraps_are_heard() {
         let of = |bsr: &str| read(&format!("{SMALL}bsr_border = true\n[bsr]\n{bsr}"));
         let usual = of("listen = true\n").unwrap();
-        assert_eq!(usual.bsr, Some(BsrSettings { limit: 256, from: None }));
+        let choice = Choice::Range;
+        assert_eq!(usual.bsr, Some(BsrSettings { limit: 256, from: None, choice }));
         assert!(usual.interfaces[0].is_bsr_border);
         assert_eq!(of("listen = false\nlimit = 7\n").unwrap().bsr, None);
         let named = of("listen = true\nlimit = 7\nfrom = [\"10.0.0.9\"]\n").unwrap();
-        assert_eq!(named.bsr, Some(BsrSettings { limit: 7, from: Some(vec![[10, 0, 0, 9].into()]) }));
+        assert_eq!(named.bsr, Some(BsrSettings { limit: 7, from: Some(vec![[10, 0, 0, 9].into()]), choice }));
+        let choice = |word: &str| of(&format!("listen = true\nchoice = \"{word}\"\n")).map(|it| it.bsr.unwrap().choice);
+        assert_eq!([choice("range").unwrap(), choice("group").unwrap()], [Choice::Range, Choice::Group]);
         let wrong = |bsr: &str| only(&format!("{SMALL}[bsr]\n{bsr}"));
         assert_eq!(wrong("limit = 0\n"), (4, "limit is 0; it is to be 1 to 256".to_string()));
         assert_eq!(wrong("from = [\"224.0.0.1\"]\n"), (4, "the BSR 224.0.0.1: it is no address of a host".to_string()));
+        let reason = "choice is \"hash\"; it is to be \"range\" or \"group\"".to_string();
+        assert_eq!(wrong("listen = true\nchoice = \"hash\"\n"), (5, reason));
     }
 
     #[test]

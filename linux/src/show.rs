@@ -4,7 +4,7 @@ pub mod joins;
 mod sheet;
 mod why;
 
-use crate::daemon::{Daemon, Rp};
+use crate::daemon::{Chosen, Daemon, Rp};
 use crate::error::Fatal;
 use crate::metrics::{families, Family};
 use crate::older::Version;
@@ -141,7 +141,7 @@ pub fn answer(daemon: &mut Daemon, line: &str, to: &mut dyn Write) -> io::Result
 /// How many addresses may stand after the name of a topic.
 fn most_about(name: &str) -> usize {
     match Topic::of(name) {
-        Some(Topic::Rpf) => 1,
+        Some(Topic::Rp | Topic::Rpf) => 1,
         Some(Topic::Mroute | Topic::Why | Topic::Igmp | Topic::Joins | Topic::Upstream | Topic::Asserts) => 2,
         _ => 0,
     }
@@ -162,7 +162,7 @@ fn rows(daemon: &mut Daemon, asked: &Asked, sheet: &mut Sheet) -> io::Result<()>
         Topic::Upstream => return joins::upstream(daemon, about, sheet),
         Topic::Asserts => return joins::asserts(daemon, about, sheet),
         Topic::Neighbors => neighbours(daemon)?,
-        Topic::Rp => rp(daemon)?,
+        Topic::Rp => rp(daemon, asked.addresses.first().copied())?,
         Topic::Bsr => bsr(daemon),
         Topic::Interfaces => interfaces(daemon)?,
         Topic::Rpf => joins::rpf(daemon, asked.addresses.first().copied())?,
@@ -207,12 +207,26 @@ fn way(daemon: &Daemon, to: Ipv4Addr) -> Option<(u32, Ipv4Addr)> {
     longest(&daemon.routing.told, number).map(|(next_hop, iface)| (iface, next_hop.into()))
 }
 
-fn rp(daemon: &mut Daemon) -> Result<Rows, Fatal> {
+/// The one by which a group has its RP.
+fn of_group(daemon: &Daemon, rps: Vec<Rp>, group: Ipv4Addr) -> Vec<Rp> {
+    let number = u32::from(group);
+    let rp = rp_of(daemon, number);
+    let has =
+        |it: &Rp| it.chosen != Chosen::Nothing && Some(it.range.address) == rp && it.range.groups.contains(number);
+    rps.into_iter().filter(has).max_by_key(|it| it.range.groups.length).into_iter().collect()
+}
+
+/// All RPs of ranges, or that of a group.
+fn rp(daemon: &mut Daemon, of: Option<Ipv4Addr>) -> Result<Rows, Fatal> {
     let joined = daemon.core.rows_of::<UpstreamRow>()?;
     let mut groups: BTreeSet<u32> = joined.iter().map(|row| u32::from(row.group)).collect();
     groups.extend(daemon.core.rows_of::<GroupRow>()?.iter().map(|row| u32::from(row.group)));
     let groups: Vec<_> = groups.into_iter().map(|group| (group, rp_of(daemon, group))).collect();
-    let (ranges, now) = (daemon.rps(), daemon.now());
+    let (all, now) = (daemon.rps(), daemon.now());
+    let ranges = match of {
+        Some(group) => of_group(daemon, all, group),
+        None => all,
+    };
     let others = |rp: Ipv4Addr| {
         let set = daemon.core.rp_sets().iter().find(|set| set.shared == rp);
         set.iter().flat_map(|set| &set.others).map(Ipv4Addr::to_string).collect::<Vec<_>>()
@@ -221,8 +235,9 @@ fn rp(daemon: &mut Daemon) -> Result<Rows, Fatal> {
         let range = &rp.range;
         let is_here = is_here(daemon, range.address);
         let way = way(daemon, range.address).filter(|_| !is_here);
-        let is_used =
-            |(group, rp): &&(u32, Option<Ipv4Addr>)| *rp == Some(range.address) && range.groups.contains(*group);
+        let is_used = |(group, of_group): &&(u32, Option<Ipv4Addr>)| {
+            rp.chosen != Chosen::Nothing && *of_group == Some(range.address) && range.groups.contains(*group)
+        };
         vec![
             ("groups", json!(range.groups.to_string())),
             ("rp", json!(range.address.to_string())),
@@ -232,7 +247,9 @@ fn rp(daemon: &mut Daemon) -> Result<Rows, Fatal> {
             ("next_hop", way.map_or(Value::Null, |(_, hop)| json!(hop.to_string()))),
             ("used_by", json!(groups.iter().filter(is_used).count())),
             ("from", json!(if rp.learned.is_some() { "bsr" } else { "file" })),
+            ("chosen_for", json!(rp.chosen.name())),
             ("priority", rp.learned.map_or(Value::Null, |learned| json!(learned.priority))),
+            ("hash_length", rp.learned.map_or(Value::Null, |learned| json!(learned.hash_length))),
             ("expires_seconds", until(rp.learned.map(|learned| learned.end), now)),
         ]
     };
@@ -403,7 +420,8 @@ pub fn counts(daemon: &Daemon) -> Vec<Count> {
         count(&families::BOOTSTRAPS_LEFT_OUT_TOTAL, it.bootstraps_left_out.values().sum()),
         count(&families::BOOTSTRAP_MOVES_TOTAL, it.bootstrap_moves),
         count(&families::BOOTSTRAP_RPS, daemon.core.learned().len() as u64),
-        count(&families::BOOTSTRAP_RANGES, daemon.core.learned().iter().filter(|rp| rp.is_given).count() as u64),
+        count(&families::BOOTSTRAP_RANGES, daemon.learned_ranges() as u64),
+        count(&families::BOOTSTRAP_CANDIDATES, daemon.core.candidates().len() as u64),
         count(&families::OWN_REPORTS_TOTAL, it.own_reports),
         count(&families::UNICASTS_RECEIVED_TOTAL, it.unicasts_heard),
         count(&families::UNICASTS_SENT_TOTAL, it.unicasts_sent),

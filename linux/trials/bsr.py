@@ -1,8 +1,11 @@
 """A BSR that is a program, the router, and FRR's pimd behind it:
 
     bsr -- 10.81.0.0/24 -- heard -- 10.82.0.0/24 -- behind -- 10.83.0.0/24 -- behind-host
+                             |
+                       10.84.0.0/24 -- heard-host
 
-Both are to have the RPs that the Bootstraps say: FRR hears them of the router alone.
+Both are to have the RPs that the Bootstraps say: FRR hears them of the router alone. Of several RPs of a range FRR has
+one for the range, and so has the router, or one for each group, as its settings say.
 """
 from __future__ import annotations
 
@@ -11,6 +14,8 @@ import os
 import shutil
 import signal
 import time
+from collections import Counter
+from ipaddress import IPv4Address, IPv4Network
 from typing import TYPE_CHECKING
 
 from trials.network import AS_SERVICE, NAMES, NOBODY, PIMD, SENDER, Failed, inside, ip, run, until
@@ -18,17 +23,23 @@ from trials.upgrade import GOES_ON
 
 if TYPE_CHECKING:
     import subprocess
+    from pathlib import Path
 
     from trials.network import Network
 
 BSR = "10.81.0.1"
 LINKS = [("bsr", f"{BSR}/24", "heard", "10.81.0.2/24"), ("heard", "10.82.0.1/24", "behind", "10.82.0.2/24"),
-         ("behind", "10.83.0.1/24", "behind-host", "10.83.0.50/24")]
+         ("behind", "10.83.0.1/24", "behind-host", "10.83.0.50/24"),
+         ("heard", "10.84.0.1/24", "heard-host", "10.84.0.50/24")]
 ROUTES = {"bsr": ["default via 10.81.0.2"], "heard": ["10.83.0.0/24 via 10.82.0.2"],
-          "behind": ["10.81.0.0/24 via 10.82.0.1"], "behind-host": ["default via 10.83.0.1"]}
+          "behind": ["10.81.0.0/24 via 10.82.0.1"], "behind-host": ["default via 10.83.0.1"],
+          "heard-host": ["default via 10.84.0.1"]}
 RANGES = 12
 GROUPS = [f"239.{41 + number}.0.0/16" for number in range(RANGES)]
 CANDIDATES = ["10.81.0.1", "10.81.0.3", "10.81.0.4"]
+# RPs of which each is that of some of these groups of the first ranges, which a host of the router wants.
+SEVERAL = ["10.81.0.1", "10.81.0.77", "10.81.0.200"]
+ASKED = [f"239.{41 + number % 3}.{7 * number}.{1 + number}" for number in range(12)]
 # They take the place of all of them.
 OTHER, LAST = "10.81.0.9", "10.81.0.10"
 # The router as RP, and then FRR.
@@ -39,6 +50,24 @@ RATE, SECONDS = 50, 16
 LONGEST_GAP, MOST_LOST = 1_000, 50
 # In seconds: for how long a message holds, and how often FRR's neighbours are heard.
 HOLDTIME, HELLO = 20, 5
+
+
+# ---- which RP a group has, by RFC 7761, 4.7.2
+
+
+def value(group: str, rp: str, mask: int = 30) -> int:
+    """Value(G,M,C(i)), with a mask M of so many bits."""
+    masked = int(IPv4Address(group)) & (0xFFFFFFFF << 32 - mask)
+    return (1103515245 * ((1103515245 * masked + 12345) ^ int(IPv4Address(rp))) + 12345) % 2**31
+
+
+def chosen(group: str) -> str:
+    """Of the candidates, which have one priority, the one of the greatest value, and of equal values of the highest
+    address."""
+    return max(SEVERAL, key=lambda rp: (value(group, rp), int(IPv4Address(rp))))
+
+
+# ---- the network
 
 
 class Chain:
@@ -60,7 +89,7 @@ class Chain:
         for place in ("heard", "behind"):
             run(*inside(place, "sysctl", "-qw", "net.ipv4.ip_forward=1"))
 
-    def start(self) -> None:
+    def start(self, choice: str = "range") -> None:
         PIMD["behind"] = f"interface to-heard\n ip pim\n ip pim hello {HELLO}\n"
         PIMD["behind"] += "interface to-behind-host\n ip pim\n ip igmp\n"
         self.net.start_frr("behind")
@@ -70,11 +99,25 @@ class Chain:
         program = self.net.room / "viqeshord"
         if not program.exists():
             shutil.copy(self.net.built / "viqeshord", program)
-        ports = "".join(f'[[interface]]\nname = "to-{port}"\n\n' for port in ("bsr", "behind"))
-        file = self.net.room / "heard.toml"
-        file.write_text(f'log = "debug"\nsocket = "{self.control}"\n\n{ports}[bsr]\nlisten = true\n')
+        file = self.settings(choice)
         with open(self.net.room / "heard.log", "a") as log:
             self.router = self.net.start("heard", *AS_SERVICE, program, "run", file, stderr=log)
+
+    def settings(self, choice: str) -> Path:
+        """The file of the router's settings."""
+        ports = "".join(f'[[interface]]\nname = "to-{port}"\n\n' for port in ("bsr", "behind", "heard-host"))
+        own, heard = f'log = "debug"\nsocket = "{self.control}"\n\n', f'[bsr]\nlisten = true\nchoice = "{choice}"\n'
+        file = self.net.room / "heard.toml"
+        file.write_text(f"{own}{ports}{heard}")
+        return file
+
+    def reload(self, choice: str) -> None:
+        """The router takes another choice while it runs."""
+        log, taken = self.net.room / "heard.log", "the settings are read anew"
+        before = log.read_text().count(taken)
+        self.settings(choice)
+        self.router.send_signal(signal.SIGHUP)
+        until("the settings are taken", 30, lambda: log.read_text().count(taken) > before)
 
     def upgrade(self) -> None:
         """Another program takes the router's place."""
@@ -94,7 +137,22 @@ class Chain:
     def heard(self) -> dict[str, str]:
         """The RPs of the router, by their ranges."""
         rows = self.net.show("rp", control=self.control)
-        return {row["groups"]: row["rp"] for row in rows if row["from"] == "bsr"}
+        return {row["groups"]: row["rp"] for row in rows if row["from"] == "bsr" and row["chosen_for"] == "range"}
+
+    def rps(self) -> dict[str, str | None]:
+        """The router's RP of each group that its host wants."""
+        found = {group: self.net.show("rp", group, control=self.control) for group in ASKED}
+        return {group: rows[0]["rp"] if rows else None for group, rows in found.items()}
+
+    def rps_of_frr(self) -> dict[str, str | None]:
+        """FRR's: those of their ranges."""
+        ranges = self.behind()
+        return {group: next((rp for it, rp in ranges.items() if IPv4Address(group) in IPv4Network(it)), None)
+                for group in ASKED}
+
+    def ask(self) -> None:
+        """The router's host wants the groups."""
+        run(*inside("heard-host", "python3", SENDER, "to-heard", "10.84.0.50", "report", *ASKED))
 
     def waiting(self) -> list[str]:
         """The RPs of which other fragments are missing at the router."""
@@ -200,4 +258,40 @@ def what_was_learned_outlasts_an_upgrade(net: Network) -> str:
     return f"{len(chosen)} ranges over one upgrade, and a fragment of {RANGES} over another"
 
 
-TRIALS = [bootstraps_are_heard_and_passed_on, a_learned_rp_serves_a_stream, what_was_learned_outlasts_an_upgrade]
+def an_rp_is_chosen_for_a_range_or_for_each_group(net: Network) -> str:
+    """of three RPs the router has FRR's for 12 groups, or where its settings say so those of RFC 7761 for each group"""
+    chain, wanted = Chain(net), {group: chosen(group) for group in ASKED}
+
+    def has(what: str, rps: dict[str, str]) -> None:
+        try:
+            until(what, 30, lambda: chain.rps() == rps)
+        except Failed as failed:
+            raise Failed(f"{failed}: {chain.rps()} in place of {rps}") from None
+
+    try:
+        chain.lay_out()
+        chain.start()
+        chain.say(600, *SEVERAL)
+        both_have(chain, "both have RPs of the BSR", SEVERAL)
+        chain.ask()
+        of_frr = chain.rps_of_frr()
+        has("the router's RPs of 12 groups are FRR's", of_frr)
+        chain.reload("group")
+        has("the router's RPs of 12 groups are those of RFC 7761", wanted)
+        used = Counter()
+        for row in net.show("rp", control=chain.control):
+            used[row["rp"]] += row["used_by"]
+        if used != Counter(wanted.values()):
+            raise Failed(f"of the groups that are asked for RPs have {dict(used)}")
+        chain.upgrade()
+        has("after an upgrade they are so still", wanted)
+        chain.reload("range")
+        has("they are FRR's again", of_frr)
+    finally:
+        chain.end()
+    unlike = sum(of_frr[group] != wanted[group] for group in ASKED)
+    return f"{len(set(wanted.values()))} RPs for each group; of {unlike} groups another one than FRR has"
+
+
+TRIALS = [bootstraps_are_heard_and_passed_on, a_learned_rp_serves_a_stream, what_was_learned_outlasts_an_upgrade,
+          an_rp_is_chosen_for_a_range_or_for_each_group]

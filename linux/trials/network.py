@@ -14,8 +14,8 @@ FRR = Path("/usr/lib/frr")
 PLACES = ("source", "first", "second", "router", "hosts", "viewer", "lan", "asker", "older")
 # Of a trial of its own.
 MORE_PLACES = ("red-source", "red-host", "blue-source", "blue-host",
-               "west-host", "west", "one", "two", "east", "east-host", "bsr", "heard", "behind",
-               "behind-host")
+               "west-host", "west", "one", "two", "east", "east-host", "bsr", "heard", "heard-host",
+               "behind", "behind-host")
 NAMES = {place: f"vq-{place}-{os.getpid()}" for place in (*PLACES, *MORE_PLACES)}
 LINKS = [
     ("source", "10.1.0.50/24", "first", "10.1.0.1/24"),

@@ -11,8 +11,8 @@ from typing import TYPE_CHECKING
 from pimtext.causes.diagnosis import Diagnosis
 from viqeshor import lab
 from viqeshor.lab import (
-    NEVER, Active, AssertState, Downstream, GroupRecord, Link, Mistake, Neighbour, OlderHosts, Port, Received, Router,
-    SharedTree, SourceRecord, Table, Tree, Upstream,
+    NEVER, Active, AssertState, Downstream, ElectedBsr, GroupRecord, LearnedRp, Link, Mistake, Neighbour, OlderHosts,
+    Port, Received, Router, SharedTree, SourceRecord, Table, Tree, Upstream,
 )
 from viqeshor.lab.faults import LateJudge
 from viqeshor.lab.lines import Lines
@@ -22,8 +22,9 @@ if TYPE_CHECKING:
     from pimtext.ways.streams import Stream
 
 __all__ = [
-    "NEVER", "Active", "AssertState", "Downstream", "GroupRecord", "Host", "Link", "Mistake", "Neighbour", "Network",
-    "OlderHosts", "Port", "Received", "Router", "Served", "SharedTree", "SourceRecord", "Table", "Tree", "Upstream",
+    "NEVER", "Active", "AssertState", "Downstream", "ElectedBsr", "GroupRecord", "Host", "LearnedRp", "Link", "Mistake",
+    "Neighbour", "Network", "OlderHosts", "Port", "Received", "Router", "Served", "SharedTree", "SourceRecord", "Table",
+    "Tree", "Upstream",
 ]
 
 

@@ -15,6 +15,7 @@ from viqeshor.lab import packets, words
 from viqeshor.lab.addresses import ip_address
 from viqeshor.lab.facts import USUAL
 from viqeshor.lab.older import read_heard
+from viqeshor.lab.rps import Candidate, candidates_of
 from viqeshor.lab.scenario import router_of
 
 if TYPE_CHECKING:
@@ -80,9 +81,10 @@ class Hop:
 
 @dataclass
 class Heard:
-    """What a scenario's moves say: the tables and interfaces that it leaves, the tables before each reload, which hosts
-    ask on which links, when each source sends, and which frames come out of order."""
+    """What a scenario's moves say: the tables, candidate RPs and interfaces that it leaves, the tables before each
+    reload, which hosts ask on which links, when each source sends, and which frames come out of order."""
     tables: dict[str, dict[str, Any]]
+    candidates: dict[str, list[Candidate]] = field(default_factory=dict)
     former: list[dict[str, Any]] = field(default_factory=list)
     up: dict[tuple[str, str], bool] = field(default_factory=dict)
     asked: set[str] = field(default_factory=set)
@@ -95,6 +97,8 @@ class Heard:
         do, name = did["do"], did.get("router")
         if do in ("routes", "rps"):
             self.replace(name, {**self.tables[name], do: did["list"]})
+        elif do == "candidates":
+            self.name_candidates(name, did["list"])
         elif do == "reload":
             self.former.append(self.tables[name])
             self.replace(name, {**did["config"], "name": name})
@@ -116,6 +120,13 @@ class Heard:
         except ValueError:
             return
         self.tables[name] = table
+
+    def name_candidates(self, name: str, texts: list[str]) -> None:
+        """Other candidate RPs of a router, unless they are refused for a prefix or an address."""
+        try:
+            self.candidates[name] = candidates_of(texts)
+        except ValueError:
+            return
 
     def hear_frame(self, name: str, link: str, data: bytes) -> None:
         try:
@@ -183,7 +194,8 @@ class Plan:
         return hops
 
     def roots(self, name: str) -> list[str]:
-        return list(dict.fromkeys(rp for _, rp in self.routers[name].rps))
+        candidates = (each.rp for each in self.heard.candidates.get(name, ()))
+        return list(dict.fromkeys([*(rp for _, rp in self.routers[name].rps), *candidates]))
 
     def ways(self) -> Iterator[list[Hop]]:
         """The ways of trees from each router on a link that is asked for something: to each RP, from there to each
@@ -303,7 +315,7 @@ class Plan:
                    "that overrides a Prune comes too late")
 
     def unmet_routes(self) -> Iterator[str]:
-        """Routes that don't lead to the RP or a source, and routers with other RP ranges."""
+        """Routes that don't lead to the RP or a source, and routers with other RP ranges or candidate RPs."""
         told: dict[str, None] = {}
         for name in self.routers:
             sources = () if self.routers[name].table.get("spt") == "never" else self.sources
@@ -314,10 +326,12 @@ class Plan:
                     told[str(reason)] = None
         yield from told
         ranges = {name: frozenset(map(str, router.rps)) for name, router in self.routers.items()}
-        first = next(iter(ranges), None)
-        others = [name for name in ranges if ranges[name] != ranges[first]]
-        if others:
-            yield f"{', '.join(others)}: other RP ranges than {first} has"
+        candidates = {name: frozenset(self.heard.candidates.get(name, ())) for name in self.routers}
+        for what, found in (("RP ranges", ranges), ("candidate RPs", candidates)):
+            first = next(iter(found), None)
+            others = [name for name in found if found[name] != found[first]]
+            if others:
+                yield f"{', '.join(others)}: other {what} than {first} has"
 
     def unmet_chances(self) -> Iterator[tuple[str, str]]:
         """What comes out of order, and in a network of tools/lab what may, what is lost, and who doesn't answer."""

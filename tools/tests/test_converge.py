@@ -179,6 +179,9 @@ class Premises(unittest.TestCase):
                                                      f": no router has 10.5.0.9, the next hop of low to {SOURCE}"])
         no_rp = ASKED + move(do="rps", router="mid") + "list = []\n"
         self.assertEqual(self.unmet(ROUTERS + no_rp), [": mid: other RP ranges than up has"])
+        named = ASKED + move(do="candidates", router="mid") + 'list = ["239.0.0.0/8 10.6.6.6 192 30"]\n'
+        self.assertEqual(self.unmet(ROUTERS + named), [": mid has no route to 10.6.6.6",
+                                                       ": mid: other candidate RPs than up has"])
 
     def test_a_source_that_is_silent(self):
         def sends(later):

@@ -46,7 +46,7 @@ def shown(read, steps, router):
 def unfit(read, steps, router):
     """Why a capture can't tell what a router did, None where it can."""
     own = [step for step in steps if step.router == router.name]
-    if any(step.did["do"] in ("down", "routes", "rps", "reload") for step in own):
+    if any(step.did["do"] in ("down", "routes", "rps", "candidates", "reload") for step in own):
         return "interfaces, routes, RPs or settings change"
     if not any(step.sent for step in own):
         return "it sends nothing"

@@ -7,7 +7,7 @@ import unittest
 from pathlib import Path
 from unittest import mock
 
-from lab import GroupRecord, Network
+from lab import Downstream, GroupRecord, Network
 from viqeshor.lab import hosts, topology
 from viqeshor.lab.hosts import ALLOW, BLOCK, IS_EX, IS_IN, TO_EX, TO_IN, Wish
 from pimtext.files import pimlab
@@ -118,6 +118,28 @@ class Hosts(unittest.TestCase):
         second.leave(GROUP)
         net.run(10)
         self.assertEqual(net.routers["r2"].rows(GroupRecord), [])
+
+    def test_several_rps_of_a_range(self):
+        """A router doesn't know of the candidate that the others prefer, and another one comes to know another."""
+        net = Network()
+        net.line("r1", "r2", "r3")
+        net.candidate("r1", "239.0.0.0/8", priority=7)
+        net.candidate("r3", "239.0.0.0/8", priority=6, at="r2")
+        rp1, rp3 = (net.loopback(net.routers[name]) for name in ("r1", "r3"))
+        viewer = net.host("viewer", "r2")
+        net.run(10)
+        viewer.join(GROUP)
+        net.run(1)
+
+        def rps():
+            return {name: state.tree(GROUP).rp for name, state in net.player.known(net.now).items()}
+
+        self.assertEqual(rps(), {"r1": rp1, "r2": rp3, "r3": rp1})
+        self.assertEqual(len(net.routers["r3"].rows(Downstream)), 0)
+        net.candidate("r3", "239.0.0.0/8", priority=5)
+        # By then its Join, which r3 dropped, is repeated.
+        net.run(61)
+        self.assertEqual((set(rps().values()), len(net.routers["r3"].rows(Downstream))), ({rp3}, 1))
 
     def test_a_group_but_for_a_source(self):
         net, camera, viewer = small()
@@ -455,6 +477,8 @@ WRONG = [
     ("net.rp(camera)", "the host camera is no router, nor the name of one"),
     ('net.rp("hub", address=camera)', 'the host camera is no address of an RP: it is one as "10.0.1.1"'),
     ('net.rp("hub", groups="239.1")', "'239.1' is no range of groups: it is one as \"239.0.0.0/8\""),
+    ('net.candidate("hub", priority=256)', "256 is no priority of an RP: it is a whole number from 0 to 255"),
+    ('net.candidate("hub", "239.0.0.1/8")', "239.0.0.1/8 has host bits set: 239.0.0.0/8 is the prefix"),
     ('net.router("far", sqt="never")', "sqt is no setting of a router; is spt meant?"),
     ('net.router("far", spt="no")', 'router "far": `spt` is the text "no"'),
     ('net.links["west-hub"].configure("hub", prority=3)', "prority is no setting of an interface; is priority meant?"),

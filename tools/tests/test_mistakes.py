@@ -5,6 +5,7 @@ from pimtext.files import pimlab
 from viqeshor.lab import scenario, toml_lines
 from pimtext.causes.diagnosis import Diagnosis
 from viqeshor.lab.faults import faults_of
+from tests import stored
 from tests.networks import ALLOW, GROUP, HOST, RP, SOURCE, SSM, TO_EX, Network, data, report, router
 
 
@@ -39,6 +40,19 @@ class Mistakes(unittest.TestCase):
         network = Network()
         network.router("east")["rps"] = []
         self.told(network, network.line("east"), f"has no RP for {GROUP}, which other routers have")
+
+    def test_an_rp_that_one_router_learned_and_another_did_not(self):
+        """The first router hears Bootstraps and the second doesn't; the RP is there by move 9, for 150 s."""
+        path = stored.DATA / "bsr_here_and_not_there.toml"
+        text = path.read_text()
+        judge, number = faults_of(text)
+        self.assertEqual(number, 0)
+        played = scenario.scenario_of(toml_lines.plain(toml_lines.read(text)))
+        notes = Diagnosis(judge, played, pimlab.run_text(text)).lines()
+        line = next(at for at, it in enumerate(text.splitlines(), 1) if 'name = "r2"' in it)
+        told = (f"{line}: router r2 has no RP for 239.1.1.1, which other routers have: r1 learned 10.0.0.1 by move 9 "
+                "(frame), line 29, until 150.001 s\n")
+        self.assertTrue(any(note.startswith(told) for note in notes), notes)
 
     def test_an_rp_that_does_not_know_that_it_is_one(self):
         network = Network()

@@ -11,7 +11,7 @@ from pimtext.shown import view_text, views
 from viqeshor.lab import asked, story
 from viqeshor.lab.known import known_after
 from tests import stored
-from tests.networks import GROUP, HOST, RP, SOURCE, Network
+from tests.networks import GROUP, HOST, RP, SOURCE, TO_EX, Network, report
 
 
 def called(*words):
@@ -76,6 +76,28 @@ class Shown(unittest.TestCase):
         self.path.write_text(network.text())
         groups = {each["range"]: each["groups"] for each in self.view("hub")["rps"]}
         self.assertEqual(groups, {"239.0.0.0/8": [], "239.1.0.0/16": [GROUP]})
+
+    def test_candidate_rps(self):
+        """Of one range beside an RP range, and of one that contains the group: the first has its longer prefix."""
+        wide, narrow = "239.0.0.0/8 10.9.9.9 0 30", "239.1.1.0/24 10.0.1.2 192 24"
+        network = Network({"do": "candidates", "router": "hub", "list": [wide, narrow]}, report(TO_EX, GROUP))
+        self.path.write_text(network.text())
+        by_range, *named = self.view("hub")["rps"]
+        self.assertEqual((by_range["named_by"], by_range["priority"], by_range["groups"]), ("range", None, []))
+        columns = ("range", "rp", "named_by", "priority", "hash_length", "is_own", "groups")
+        self.assertEqual([tuple(each[name] for name in columns) for each in named], [
+            ("239.0.0.0/8", "10.9.9.9", "candidate", 0, 30, False, []),
+            ("239.1.1.0/24", RP, "candidate", 192, 24, True, [GROUP]),
+        ])
+        out = [line.split() for line in called(self.path, "--router", "hub")[1].splitlines()]
+        self.assertIn(["239.1.1.0/24", RP, "candidate,", "priority", "192", "itself", GROUP], out)
+        out = called(self.path, "--router", "hub", "--show", "ip pim rp-info")[1].splitlines()
+        self.assertEqual([line.split()[4] for line in out[1:]], ["Static", "Candidate", "Candidate"])
+
+    def test_a_learned_rp(self):
+        self.path.write_text((stored.DATA / "bsr_a_learned_rp.toml").read_text())
+        named = [(each["range"], each["named_by"]) for each in self.view("r1")["rps"]]
+        self.assertEqual(named, [("239.0.0.0/8", "bootstrap")])
 
     def test_after_a_move(self):
         self.assertEqual(self.view("east", "--at", 0)["neighbours"], [])

@@ -140,6 +140,26 @@ class Recorded(unittest.TestCase):
         first, _ = tomllib.loads(scenario.read_text())["move"]
         self.assertEqual((first["do"], first["places"], len(first["config"]["iface"])), ("reload", ["none", "0"], 1))
 
+    def test_candidates(self):
+        with Router([("10.0.0.2", 24), ("10.0.1.1", 24)], library=self.shared) as router:
+            with recording.Recorder(router, self.room / "several"):
+                router.set_candidates([("239.0.0.0/8", "10.0.0.2", 7, 30), ("239.0.0.0/8", "10.8.8.8", 7, 30)], draw=5)
+                router.set_candidates([("239.0.0.0/3", "10.0.0.2", 7, 30)])
+                router.set_candidates([])
+        path, part, scenario = self.room / "several.0", self.room / "part", self.room / "part.toml"
+        self.assertEqual(self.run_tool(path), (0, "3 records, each as it was recorded\n"))
+        said = [("239.0.0.0/8 10.0.0.2 7 30, 239.0.0.0/8 10.8.8.8 7 30", "done"),
+                ("239.0.0.0/3 10.0.0.2 7 30", "bad_candidates"), ("none", "done")]
+        told = "".join(f"{number} 0 ms candidates {what}: {answer}\n" for number, (what, answer) in enumerate(said, 1))
+        self.assertEqual(self.run_tool(path, "--list"), (0, told))
+        # Those of before are in the state.
+        self.assertEqual(self.run_tool(path, "--from", "2", "--write", part)[0], 0)
+        with Router.restore(recording.read(part).state, library=self.shared) as router:
+            self.assertEqual(router.tree("239.1.1.1").rp, "10.8.8.8")
+        self.assertEqual(self.run_tool(path, "--scenario", scenario)[0], 0)
+        first, *_ = tomllib.loads(scenario.read_text())["move"]
+        self.assertEqual((first["do"], first["draw"], first["list"]), ("candidates", 5, said[0][0].split(", ")))
+
     def test_sets_of_rps(self):
         with Router([("10.0.0.2", 24), ("10.0.1.1", 24)], library=self.shared) as router:
             with recording.Recorder(router, self.room / "shared"):

@@ -57,6 +57,26 @@ class Saved(unittest.TestCase):
                 saved.read(given)
             self.assertEqual(caught.exception.number, number)
 
+    def test_candidates(self):
+        # 10.99.0.1 of priority 192 and 10.88.0.9 of priority 0, of 239.0.0.0/8 with a mask of 30 bits; no own address.
+        rows = [bytes.fromhex(f"ef00000000000008 0a{rp} 000000{priority} 0000001e")
+                for rp, priority in (("630001", "c0"), ("580009", "00"))]
+
+        def with_candidates(*rows):
+            lists = b"\0" * 8 + len(rows).to_bytes(8, "big") + b"".join(rows)
+            return saved.summed(self.data[:5] + b"\4" + lists + self.data[6:-4])
+
+        state = saved.read(with_candidates(*rows))
+        wanted = [("239.0.0.0", 8, "10.99.0.1", 192, 30), ("239.0.0.0", 8, "10.88.0.9", 0, 30)]
+        self.assertEqual(state.candidates, wanted)
+        self.assertEqual((state.addresses, state.ranges), ([], saved.read(self.data).ranges))
+        self.assertIn("candidate 239.0.0.0 8 10.99.0.1 192 30", list(saved.lines(state)))
+        self.assertEqual(saved.read(self.data).candidates, [])
+        for given, number in ((with_candidates(), 63), (with_candidates(rows[0][:-1]), 62)):
+            with self.assertRaises(saved.Unreadable) as caught:
+                saved.read(given)
+            self.assertEqual(caught.exception.number, number)
+
     def test_older_hosts(self):
         # One of IGMPv1 of 239.1.1.1 on interface 3, known until 260 s.
         row = bytes.fromhex("00000003ef0101010000" "01000000000003f7a0" "00")

@@ -1,9 +1,9 @@
 /* Plays the events of one router over and over, with one allocation refused each time, and looks at what the library
  * says then.
  *
- * Standard input has lines of words: `interface`, `route` and `range` with their numbers, `new` with the six settings,
- * and then a line an event, as `frame DRAW IFACE HEX`; `new` takes the lists that stand before it, `routes DRAW` and
- * `ranges DRAW` those since then. All is played a second time as behind a data plane: of each packet of data the router
+ * Standard input has lines of words: `interface`, `route`, `range` and `candidate` with their numbers, `new` with the six
+ * settings, and then a line an event, as `frame DRAW IFACE HEX`; `new` takes the lists that stand before it, `routes
+ * DRAW`, `ranges DRAW` and `candidates DRAW` those since then. All is played a second time as behind a data plane: of each packet of data the router
  * is told by viq_seen and viq_keep. Linked with --wrap=malloc, realloc and free. */
 #include <stdio.h>
 #include <stdlib.h>
@@ -45,10 +45,10 @@ void __wrap_free(void *old) {
 /* ---- what is played */
 
 struct event {
-    char kind; /* a f u + - r g, and s k of a data plane */
+    char kind; /* a f u + - r g h, and s k of a data plane */
     uint32_t draw, iface;
     uint64_t moment;
-    size_t first, count; /* bytes, routes or ranges */
+    size_t first, count; /* bytes, routes, ranges or candidates */
 };
 
 static struct viq_settings settings;
@@ -56,10 +56,11 @@ static struct viq_interface interfaces[128];
 static uint32_t addresses[VIQ_MOST_ADDRESSES];
 static struct viq_route routes[MOST_ITEMS];
 static struct viq_range ranges[MOST_ITEMS];
+static struct viq_candidate candidates[MOST_ITEMS];
 static uint8_t bytes[MOST_EVENTS * 256];
 static struct event events[MOST_EVENTS];
 static size_t interface_count, address_count, route_count, range_count, byte_count, event_count, first_routes, first_ranges;
-static size_t taken_routes, taken_ranges;
+static size_t candidate_count, taken_routes, taken_ranges, taken_candidates;
 
 static uint32_t number(void) {
     char *word = strtok(NULL, " \n");
@@ -78,6 +79,7 @@ static void read_event(const char *word) {
     struct event *event = &events[event_count];
     if (++event_count > MOST_EVENTS) exit(2);
     event->kind = strcmp(word, "up") == 0 ? '+' : strcmp(word, "down") == 0 ? '-' : strcmp(word, "ranges") == 0 ? 'g' : word[0];
+    if (strcmp(word, "candidates") == 0) event->kind = 'h';
     event->draw = number();
     if (event->kind == 'a') event->moment = strtoull(strtok(NULL, " \n"), NULL, 10);
     if (event->kind == 'f' || event->kind == '+' || event->kind == '-') event->iface = number();
@@ -91,6 +93,11 @@ static void read_event(const char *word) {
         event->first = taken_ranges;
         event->count = range_count - taken_ranges;
         taken_ranges = range_count;
+    }
+    if (event->kind == 'h') {
+        event->first = taken_candidates;
+        event->count = candidate_count - taken_candidates;
+        taken_candidates = candidate_count;
     }
 }
 
@@ -118,6 +125,10 @@ static void read_line(char *line) {
         if (range_count == MOST_ITEMS) exit(2);
         uint32_t *to = &ranges[range_count++].prefix;
         for (int at = 0; at < 3; at++) to[at] = number();
+    } else if (strcmp(word, "candidate") == 0) {
+        if (candidate_count == MOST_ITEMS) exit(2);
+        uint32_t *to = &candidates[candidate_count++].prefix;
+        for (int at = 0; at < 5; at++) to[at] = number();
     } else {
         read_event(word);
     }
@@ -164,6 +175,7 @@ static uint32_t play(struct viq_router *router, const struct event *event) {
     case 's': return viq_seen(router, event->iface, source_in(event), group_in(event), viq_draw(event->draw));
     case 'k': return viq_keep(router, source_in(event), group_in(event), event->moment);
     case 'r': return viq_routes(router, routes + event->first, event->count, viq_draw(event->draw));
+    case 'h': return viq_candidates(router, candidates + event->first, event->count, viq_draw(event->draw));
     default: return viq_ranges(router, ranges + event->first, event->count, viq_draw(event->draw));
     }
 }
@@ -306,6 +318,7 @@ static int is_lost(struct viq_router *router, uint64_t rows) {
     uint32_t answers[] = {viq_up(router, 0, viq_draw(1)), viq_down(router, 0, viq_draw(1)), viq_advance(router, UINT64_MAX, viq_draw(1)),
                           viq_frame(router, 0, none, 0, viq_draw(1)), viq_unicast(router, none, 0, viq_draw(1)),
                           viq_routes(router, routes, first_routes, viq_draw(1)), viq_ranges(router, ranges, first_ranges, viq_draw(1)),
+                          viq_candidates(router, candidates, candidate_count ? 1 : 0, viq_draw(1)),
                           viq_seen(router, 0, 0x0a000009, 0xe8010101, viq_draw(1)), viq_keep(router, 0x0a000009, 0xe8010101, 1)};
     struct viq_received frames[2] = {{0, none, 0, {1}}, {0, none, 0, {1}}};
     uint32_t told[2] = {VIQ_DONE, VIQ_DONE};
@@ -352,7 +365,7 @@ static void play_for_sources(void) {
     viq_end(router);
 }
 
-static int is_copied(const struct event *event) { return event->kind == 'r' || event->kind == 'g'; }
+static int is_copied(const struct event *event) { return event->kind == 'r' || event->kind == 'g' || event->kind == 'h'; }
 
 /* Such an answer takes no memory but that of a copy: the event is ignored, or refused for its bytes, its moment or its
  * interface. Of viq_seen and viq_keep it isn't said. */

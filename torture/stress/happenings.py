@@ -1,5 +1,6 @@
-"""Random events of one router: neighbours, hosts and sources on its links, sources and RPs behind others, routes and
-ranges that change, links that go down, and time. All of it comes of one seed. And the events of a stored scenario."""
+"""Random events of one router: neighbours, hosts and sources on its links, sources and RPs behind others, routes,
+ranges and candidate RPs that change, links that go down, and time. All of it comes of one seed. And the events of a
+stored scenario."""
 from __future__ import annotations
 
 import random
@@ -10,6 +11,7 @@ from typing import TYPE_CHECKING, Any
 
 from viqeshor.lab import fed, packets
 from viqeshor.lab.packets import Assert, Entry, GroupEntries, Hello, Record
+from viqeshor.lab.rps import Candidate, rp_among
 
 if TYPE_CHECKING:
     from collections.abc import Iterable, Iterator
@@ -44,7 +46,10 @@ class Event:
 
 
 # The calls that take a list, which a stored event has as texts.
-LISTS = {"routes": ("set_routes", fed.routes), "ranges": ("set_ranges", fed.ranges)}
+LISTS = {
+    "routes": ("set_routes", fed.routes), "ranges": ("set_ranges", fed.ranges),
+    "candidates": ("set_candidates", fed.candidates),
+}
 
 
 def events_of(steps: Iterable[Step]) -> Iterator[Event]:
@@ -90,6 +95,7 @@ class Happenings:
         self.apart = [LOOPBACK][seed % 2:]
         self.rps = [FAR_RP, self.own(0), self.own(self.count - 1), *self.apart]
         self.routes, self.ranges = self.some_routes(), self.some_ranges()
+        self.candidates: list[Candidate] = []
         limit = draws.choice((65536, 65536, draws.randint(2, 8), draws.randint(8, 25)))
         self.settings = {"limit": limit, "stays_on_shared_tree": draws.random() < 0.3, "addresses": self.apart}
         self.flows = [self.some_flow() for _ in range(draws.randint(1, 3))]
@@ -137,7 +143,8 @@ class Happenings:
         return max(ways)[1] if ways else self.iface()
 
     def rp(self, group: str) -> str:
-        return next((rp for prefix, rp in reversed(self.ranges) if IPv4Address(group) in IPv4Network(prefix)), FAR_RP)
+        found = rp_among([(IPv4Network(prefix), rp) for prefix, rp in self.ranges], self.candidates, group)
+        return found[1] if found else FAR_RP
 
     def way(self, source: str, group: str) -> int:
         """An interface on which packets come: that towards the source, that towards the RP, or any; now and then one
@@ -160,6 +167,14 @@ class Happenings:
         if self.draws.random() < 0.4:
             ranges.append(("239.2.0.0/16", self.draws.choice(self.rps)))
         return ranges if self.draws.random() < 0.95 else []
+
+    def some_candidates(self) -> list[Candidate]:
+        """RPs of ranges that the RP ranges have too, contain, or are in; now and then none."""
+        prefixes = [IPv4Network(self.draws.choice(("224.0.0.0/4", "239.0.0.0/8", "239.0.0.0/14", "239.2.0.0/16")))
+                    for _ in range(self.draws.choice((0, 1, 2, 2, 4)))]
+        named = {(prefix, self.draws.choice(self.rps)) for prefix in prefixes}
+        return [Candidate(prefix, rp, self.draws.choice((0, 192, 192)), self.draws.choice((0, 30, 32)))
+                for prefix, rp in sorted(named)]
 
     # ---- events
 
@@ -205,9 +220,14 @@ class Happenings:
             self.routes = self.some_routes()
         return self.event("set_routes", (self.routes,), f"routes {self.routes}")
 
-    def new_ranges(self) -> Event:
-        self.ranges = self.some_ranges()
-        return self.event("set_ranges", (self.ranges,), f"ranges {self.ranges}")
+    def new_rps(self) -> Event:
+        """New RP ranges, or new candidate RPs."""
+        if self.draws.random() < 0.5:
+            self.ranges = self.some_ranges()
+            return self.event("set_ranges", (self.ranges,), f"ranges {self.ranges}")
+        self.candidates = self.some_candidates()
+        given = [(str(prefix), *rest) for prefix, *rest in self.candidates]
+        return self.event("set_candidates", (given,), f"candidates {given}")
 
     def entry(self, source: str, group: str) -> tuple[str, Entry]:
         """An entry of a Join/Prune, in words and as it is sent: of (*,G), (S,G) or (S,G,rpt)."""
@@ -325,7 +345,7 @@ class Happenings:
 
     CHANCES = {
         "data": 20, "wait": 14, "join_prune": 12, "report": 9, "hello": 4, "assert_": 5, "register": 4, "spoilt": 4,
-        "link": 2, "register_stop": 3, "query": 1, "new_routes": 2, "new_ranges": 1, "refusal": 0.05,
+        "link": 2, "register_stop": 3, "query": 1, "new_routes": 2, "new_rps": 1, "refusal": 0.05,
     }
 
     def refusal(self) -> Event:

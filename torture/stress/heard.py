@@ -6,9 +6,9 @@ from pathlib import Path
 from typing import Any, TypeVar
 
 import viqeshor
-from stress.rfc5059 import Around, Learned, Listener, Part, network, packet, rp_among
+from stress.rfc5059 import Around, Learned, Listener, Part, network, packet
 from viqeshor import Answer
-from viqeshor.bsr import Bsr
+from viqeshor.bsr import Bsr, Choice
 from viqeshor.lab import packets
 from viqeshor.lab.packets import Bootstrap, CandidateRp, Hello, bootstrap_message
 
@@ -23,7 +23,7 @@ ROUTES = [("10.9.0.0/16", ABOVE[1], 0), ("10.6.0.0/16", BESIDE[1], 0), ("10.8.0.
           ("10.7.0.0/16", STRANGER[1], 0)]
 OTHER_ROUTES = [("10.9.0.0/16", BELOW[1], 1), ("10.8.0.0/16", ABOVE[1], 0)]
 STATIC = [("239.1.0.0/16", "10.0.0.99")]
-PROBED = ("225.1.1.1", "232.1.1.1", "239.1.1.1", "239.2.1.1", "239.9.9.9")
+PROBED = ("225.1.1.1", "232.1.1.1", "239.1.1.1", "239.2.1.1", "239.9.9.9", "239.0.0.1", "239.0.0.5", "239.0.0.21")
 Came = TypeVar("Came")
 
 
@@ -35,7 +35,7 @@ class Heard:
     """A router and its listener, and the reading beside them."""
 
     def __init__(self, library: Path, forgets: Iterable[str] = (), *, limit: int = 256, refresh_end: int = 0,
-                 static: Iterable[tuple[str, str]] = tuple(STATIC)) -> None:
+                 static: Iterable[tuple[str, str]] = tuple(STATIC), choice: str = "range") -> None:
         self.library, self.static, self.words = library, list(static), []
         self.bsr = Bsr(self.static, limit=limit, refresh_end=refresh_end, library=library)
         around = Around(INTERFACES, [LOOPBACK])
@@ -46,6 +46,8 @@ class Heard:
         for neighbour in (ABOVE, BESIDE, BELOW):
             self.hello(*neighbour)
         self.set_routes(ROUTES)
+        if choice != self.wanted.choice:
+            self.choose(choice)
 
     def made(self) -> viqeshor.Router:
         return viqeshor.Router(INTERFACES, self.static, library=self.library, addresses=[LOOPBACK])
@@ -103,8 +105,17 @@ class Heard:
     def configure(self, static: list[tuple[str, str]], limit: int = 256) -> None:
         self.words.append(f"ranges {static}, limit {limit}")
         self.router.packets()
-        self.must(self.called(lambda: self.bsr.set_ranges(self.router, static, limit=limit, draw=7)))
+        # Where each group has its own RP candidates follow, by a second event.
+        called = self.called if self.wanted.choice == "range" else lambda call: call()
+        self.must(called(lambda: self.bsr.set_ranges(self.router, static, limit=limit, draw=7)))
         self.wanted.configure(static, limit)
+        self.compare()
+
+    def choose(self, choice: str) -> None:
+        self.words.append(f"an RP is chosen for a {choice}")
+        self.router.packets()
+        self.must(self.bsr.choose(self.router, Choice[choice.upper()], 7))
+        self.wanted.choose(choice)
         self.compare()
 
     def tell(self, told: Bootstrap, by: tuple[int, str] = ABOVE, **how: Any) -> Answer:
@@ -164,9 +175,8 @@ class Heard:
     def compare(self) -> None:
         """All that is known, and what the router has of it."""
         self.compare_known()
-        given = self.wanted.given()
         self.same("the router's RPs", {group: self.router.tree(group).rp for group in PROBED},
-                  {group: rp_among(given, group) for group in PROBED})
+                  {group: self.wanted.rp(group) for group in PROBED})
 
     def compare_known(self) -> None:
         wanted, kept = self.wanted, self.wanted.kept
@@ -180,5 +190,5 @@ class Heard:
         elected = self.bsr.elected()
         self.same("the elected BSR", elected and tuple(elected), wanted.elected)
         self.same("the next end", self.bsr.next_end(), wanted.next_end())
-        self.same("the chosen RPs", {network(row.groups): row.rp for row in rows if row.is_given},
-                  {net: it.rp for net, it in wanted.chosen().items()})
+        self.same("the chosen RPs", {(network(row.groups), row.rp) for row in rows if row.is_given},
+                  {(it.prefix, it.rp) for it in (*wanted.chosen().values(), *wanted.candidates())})

@@ -7,12 +7,12 @@ Each router of a scenario is played through the static library: its moves, and t
 viq_seen and viq_keep. Each run is played once in full, and then once for each allocation of that run, which is refused.
 Each such run must be as the full one up to the call at which memory was refused: packets, forwarding cache, next
 moment, costs. That call gives one of two answers. VIQ_LOST: then each later call answers that the router is lost, and
-only the rows that were read before can be read. VIQ_MEMORY, only by viq_new, viq_read, viq_routes and viq_ranges, and
-by viq_save and viq_restore at the end of the run: then nothing has changed, and the call is made again. Where the
-router can do without the memory, such as room that it keeps for later packets, the whole run is as the full one. An
-event that is ignored, or refused for its bytes, its timestamp or its interface, never loses the router. In the end no
-block is left. Without files the stored scenarios are played, the small ones first, for at most N seconds (300). A line
-for each router and a sum are printed.
+only the rows that were read before can be read. VIQ_MEMORY, only by viq_new, viq_read, viq_routes, viq_ranges and
+viq_candidates, and by viq_save and viq_restore at the end of the run: then nothing has changed, and the call is made
+again. Where the router can do without the memory, such as room that it keeps for later packets, the whole run is as the
+full one. An event that is ignored, or refused for its bytes, its timestamp or its interface, never loses the router. In
+the end no block is left. Without files the stored scenarios are played, the small ones first, for at most N seconds
+(300). A line for each router and a sum are printed.
 
 Then come the calls of a listener for Bootstraps, in random runs and in the trials of `torture/run bootstraps`, as many
 as begin in N seconds more: each call is made once for each of its allocations, which is refused, and then with none
@@ -57,7 +57,12 @@ def range_lines(texts: Iterable[str]) -> Iterator[str]:
         yield f"range {prefix(net)} {address_in(rp)}"
 
 
-LISTS = {"routes": route_lines, "ranges": range_lines}
+def candidate_lines(texts: Iterable[str]) -> Iterator[str]:
+    for net, rp, *rest in fed.candidates(texts):
+        yield " ".join(map(str, ["candidate", prefix(net), address_in(rp), *rest]))
+
+
+LISTS = {"routes": route_lines, "ranges": range_lines, "candidates": candidate_lines}
 
 
 def config_lines(table: dict[str, Any]) -> Iterator[str]:

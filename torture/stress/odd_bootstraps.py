@@ -250,6 +250,35 @@ def never_too_early(heard: Heard) -> None:
     heard.tell(USUAL)
 
 
+def each_group(heard: Heard) -> None:
+    """Each group has its own RP, of ranges in one another, of several priorities and masks, beside configured ones."""
+    several = whole("239.0.0.0", 8, [FIRST, SECOND, THIRD])
+    for mask in (30, 0, 32, 8):
+        heard.tell(Bootstrap(BSR, (several,), tag=mask, hash_length=mask))
+    unlike = tuple(CandidateRp(rp, 150, priority) for rp, priority in ((FIRST, 7), (SECOND, 5), (THIRD, 5)))
+    heard.tell(Bootstrap(BSR, (RpRange("239.0.0.0", 8, unlike, 3),), tag=33))
+    heard.tell(Bootstrap(BSR, (whole("239.2.0.0", 16, [THIRD]), whole("224.0.0.0", 4, [SECOND])), tag=34))
+    heard.tell(Bootstrap(BSR, (whole("239.1.0.0", 16, [FIRST, SECOND]), whole("239.1.1.0", 24, [SECOND])), tag=35))
+    for static in ([("239.0.0.0/8", "10.0.0.98")], [("224.0.0.0/4", "10.0.0.98")], [], STATIC):
+        heard.configure(static)
+    heard.configure(STATIC, 2)
+    heard.wait(151_000)
+
+
+def choices(heard: Heard) -> None:
+    """Another choice, while RPs are in force, wait for fragments and end."""
+    heard.tell(USUAL)
+    heard.tell(Bootstrap(BSR, (RpRange("238.0.0.0", 8, rps_of([FIRST]), 2),)))
+    for choice in ("group", "range", "group", "group", "range"):
+        heard.choose(choice)
+        heard.wait(10)
+    heard.choose("group")
+    heard.tell(Bootstrap(BSR, (RpRange("238.0.0.0", 8, rps_of([SECOND]), 2),)))
+    heard.choose("range")
+    heard.wait(151_000)
+    heard.choose("group")
+
+
 def with_receivers(heard: Heard) -> None:
     """The RP changes, goes and comes while there are members, and while a source's packets come."""
     group = "239.9.9.9"
@@ -265,7 +294,9 @@ def with_receivers(heard: Heard) -> None:
 TRIALS: dict[str, tuple[Callable[[Heard], None], dict[str, Any]]] = {
     each.__name__: (each, {"refresh_end": 60_000}) for each in (refreshed, too_late, never_too_early)
 } | {each.__name__: (each, {}) for each in (tags, flags, extremes, fragments_by_routes, flapping, with_receivers,
-    many_rps, many_ranges, endless, left_over, addressed, cut, senders, endless_tags, flipped)}
+    many_rps, many_ranges, endless, left_over, addressed, cut, senders, endless_tags, flipped, choices)} | {
+    f"{each.__name__}_by_group": (each, {"choice": "group"}) for each in (
+        each_group, many_rps, many_ranges, with_receivers)}
 
 
 # ---- random runs
@@ -278,7 +309,8 @@ class Random:
         self.draws = random.Random(seed)
         self.settings = {"limit": self.draws.choice((256, 256, 40, 5, 1)),
                          "refresh_end": self.draws.choice((0, 60_000, 60_000)),
-                         "static": self.draws.choice((STATIC, [], [("239.0.0.0/8", THIRD), *STATIC]))}
+                         "static": self.draws.choice((STATIC, [], [("239.0.0.0/8", THIRD), *STATIC])),
+                         "choice": self.draws.choice(("range", "group"))}
 
     def rp(self) -> CandidateRp:
         address = self.draws.choice((FIRST, SECOND, THIRD, *hosts(3), ABOVE[1], LOOPBACK))
@@ -314,8 +346,9 @@ class Random:
 
     def happen(self, heard: Heard) -> None:
         """One of what may happen."""
-        what, = self.draws.choices(("message", "again", "garbage", "wait", "routes", "neighbour", "link", "ranges"),
-                                   (50, 8, 12, 25, 2, 3, 1, 2))
+        what, = self.draws.choices(
+            ("message", "again", "garbage", "wait", "routes", "neighbour", "link", "ranges", "choice"),
+            (50, 8, 12, 25, 2, 3, 1, 2, 0.5))
         getattr(self, what)(heard)
 
     def message(self, heard: Heard) -> None:
@@ -351,6 +384,9 @@ class Random:
     def link(self, heard: Heard) -> None:
         iface = self.draws.randrange(2)
         (heard.down if iface in heard.wanted.around.up else heard.up)(iface)
+
+    def choice(self, heard: Heard) -> None:
+        heard.choose({"range": "group", "group": "range"}[heard.wanted.choice])
 
     def ranges(self, heard: Heard) -> None:
         many = [(f"238.{at}.0.0/16", FIRST) for at in range(250)]

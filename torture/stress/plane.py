@@ -4,8 +4,9 @@
     --archive FILE]
 
 First each router of each stored scenario takes its events. Then come runs of random events (stress.happenings):
-Hellos, Join/Prunes, Asserts, reports, data on every interface, spoilt packets, Registers, routes and RP ranges that
-change, links that go down, time, in some runs a limit that leaves little room, and now and then memory that is refused.
+Hellos, Join/Prunes, Asserts, reports, data on every interface, spoilt packets, Registers, routes, RP ranges and
+candidate RPs that change, links that go down, time, in some runs a limit that leaves little room, and now and then
+memory that is refused.
 One router takes them all. In front of another router is a data plane (stress.dataplane) that forwards by the rows
 which it reads from the router, and reports later what it forwarded, as include/viqeshor/plane.h says. After each event
 both have to have answered and sent the same; now and then, and at the end, all tables have to be the same. The first

@@ -11,6 +11,7 @@ from ipaddress import IPv4Address, IPv4Network
 from viqeshor import Answer
 from viqeshor.lab import packets
 from viqeshor.lab.packets import Bootstrap, CandidateRp, RpRange
+from viqeshor.lab.rps import hashed
 
 # BS_Period and BS_Timeout (section 5), and how long the same bytes are a repetition.
 BS_PERIOD, BS_TIMEOUT, REPETITION = 60_000, 130_000, 1000
@@ -43,6 +44,9 @@ RULES = {
     "priority": "the lowest priority number is chosen",
     "hash": "of the same the greatest hash",
     "configured": "a configured range wins",
+    "group": "where each group has its own RP, by the group and not by its range",
+    "longer": "of its candidates those of the longest prefix come first",
+    "between": "of a candidate and a configured range the longer prefix decides",
     "forward": "a message is sent on, on each interface with neighbours",
     "repetition": "not where it came on, within a second",
 }
@@ -116,13 +120,6 @@ class Around:
 # ---- what is known by Bootstraps
 
 
-def rp_among(given: dict[IPv4Network, str], group: str) -> str | None:
-    """RP(G): that of the longest range (RFC 7761, 4.7.1)."""
-    address = IPv4Address(group)
-    ranges = [net for net in given if address in net and address not in SSM]
-    return given[max(ranges, key=lambda net: net.prefixlen)] if ranges else None
-
-
 @dataclass(frozen=True)
 class Learned:
     """An RP of a range, in force until its end."""
@@ -142,12 +139,6 @@ class Part:
     until: int
 
 
-def hashed(length: int, group: IPv4Address, rp: str) -> int:
-    """Value(G,M,C) of RFC 7761, 4.7.2."""
-    masked = int(group) & (0xFFFFFFFF << (32 - length))
-    return (1103515245 * ((1103515245 * masked + 12345) ^ int(IPv4Address(rp))) + 12345) % 2 ** 31
-
-
 @dataclass(frozen=True)
 class Kept:
     """The RPs in force and those that wait, each in the order in which they came, and the hash mask's length."""
@@ -161,18 +152,20 @@ class Kept:
 
 @dataclass(frozen=True)
 class Outcome:
-    """What comes of a packet: the answer, whether the ranges moved, and what is sent on."""
+    """What comes of a packet: the answer, whether the RPs moved, and what is sent on."""
     answer: Answer
     moved: bool = False
     sent: tuple[tuple[str, int, bytes], ...] = ()
 
 
 class Listener:
-    """What a router that hears Bootstraps is to know, and to do. It may be told to forget rules."""
+    """What a router that hears Bootstraps is to know, and to do. An RP is chosen for a `range` of groups, or for each
+    `group`. It may be told to forget rules."""
 
     def __init__(self, around: Around, static: Iterable[tuple[str, str]] = (), *, limit: int = 256,
-                 refresh_end: int = 0, forgets: Iterable[str] = ()) -> None:
+                 refresh_end: int = 0, choice: str = "range", forgets: Iterable[str] = ()) -> None:
         self.around, self.refresh_end, self.forgets = around, refresh_end, frozenset(forgets)
+        self.choice = choice
         self.elected: tuple[str, int, int] | None = None
         self.kept, self.has_heard = Kept(), False
         self.last: tuple[bytes, int] = b"", 0
@@ -279,19 +272,45 @@ class Listener:
 
     # ---- what the router is given
 
-    def weight(self, rp: Learned) -> tuple[int, int, int]:
-        """The RP of the least weight is chosen (RFC 7761, 4.7.1), by the hash of the range's own address."""
-        value = hashed(self.kept.hash_length, rp.prefix.network_address, rp.rp) if self.minds("hash") else 0
+    def weight(self, rp: Learned, group: IPv4Address) -> tuple[int, int, int]:
+        """Of the RPs of a prefix that of the least weight is chosen for a group (RFC 7761, 4.7.1 and 4.7.2)."""
+        value = hashed(self.kept.hash_length, group, rp.rp) if self.minds("hash") else 0
         return rp.priority if self.minds("priority") else 0, -value, -int(IPv4Address(rp.rp))
 
     def chosen(self) -> dict[IPv4Network, Learned]:
-        """The RP of each range that isn't configured."""
-        prefixes = {rp.prefix for rp in self.kept.rps}
+        """The RP of each range that isn't configured, where one is chosen for a range: by the range's own address."""
+        prefixes = {rp.prefix for rp in self.kept.rps} if self.choice == "range" else set()
         prefixes -= self.static.keys() if self.minds("configured") else set()
-        return {net: min((rp for rp in self.kept.rps if rp.prefix == net), key=self.weight) for net in prefixes}
+        return {net: min((rp for rp in self.kept.rps if rp.prefix == net),
+                         key=lambda rp: self.weight(rp, rp.prefix.network_address)) for net in prefixes}
 
-    def given(self) -> dict[IPv4Network, str]:
-        return self.static | {net: it.rp for net, it in self.chosen().items()}
+    def candidates(self) -> tuple[Learned, ...]:
+        """Those of which the router chooses one for each group."""
+        return self.kept.rps if self.choice == "group" else ()
+
+    def given(self) -> tuple[dict[IPv4Network, str], set[tuple[IPv4Network, str, int, int]]]:
+        """The ranges that the router is given, and the candidates with their priorities and masks."""
+        ranges = self.static | {net: it.rp for net, it in self.chosen().items()}
+        return ranges, {(it.prefix, it.rp, it.priority, self.kept.hash_length) for it in self.candidates()}
+
+    def rp(self, group: str) -> str | None:
+        """RP(G) of the router (RFC 7761, 4.7.1)."""
+        address = IPv4Address(group)
+        if address in SSM:
+            return None
+        (ranges, _), found = self.given(), []
+        for net in sorted((net for net in ranges if address in net), key=lambda net: -net.prefixlen)[:1]:
+            found.append((net.prefixlen, self.minds("configured"), ranges[net]))
+        if (one := self.candidate(address)) is not None:
+            found.append((one.prefix.prefixlen if self.minds("between") else 33, not self.minds("configured"), one.rp))
+        return max(found, default=(0, False, None))[-1]
+
+    def candidate(self, group: IPv4Address) -> Learned | None:
+        """The candidate that is chosen for a group, of those whose prefix has it."""
+        here = [rp for rp in self.candidates() if group in rp.prefix]
+        return min(here, key=lambda rp: (
+            -rp.prefix.prefixlen if self.minds("longer") else 0,
+            self.weight(rp, group if self.minds("group") else rp.prefix.network_address)), default=None)
 
     # ---- time, and other configured ranges
 
@@ -306,6 +325,10 @@ class Listener:
         rps = tuple(rp for rp in self.kept.rps if rp.end > moment or not self.minds("holdtime"))
         parts = tuple(part for part in self.kept.parts if part.until > moment or not self.minds("stale"))
         self.kept = replace(self.kept, rps=rps, parts=parts)
+
+    def choose(self, choice: str) -> None:
+        """An RP is chosen for something else."""
+        self.choice = choice
 
     def configure(self, static: Iterable[tuple[str, str]], limit: int) -> None:
         """Those for which there is no room any more go, those that wait first, and the newest."""

@@ -10,7 +10,7 @@ from ipaddress import IPv4Address, IPv4Network
 from pimtext.build.library import Library
 from stress import bootstraps, listeners, rfc5059
 from stress.plane import refusing
-from stress.rfc5059 import Around, Listener, packet, rp_among
+from stress.rfc5059 import Around, Listener, packet
 from viqeshor import Answer
 from viqeshor.lab import packets
 from viqeshor.lab.packets import Bootstrap, CandidateRp, RpRange, bootstrap_message
@@ -64,7 +64,7 @@ class Reading(unittest.TestCase):
         return self.listener.hear(0, packet(source, bootstrap_message(Bootstrap(bsr, (told,), **more))))
 
     def rp(self, group="239.9.9.9"):
-        return rp_among(self.listener.given(), group)
+        return self.listener.rp(group)
 
     def test_the_hash_is_what_another_program_prints(self):
         for rp, value in PRINTED.items():
@@ -109,9 +109,28 @@ class Reading(unittest.TestCase):
         self.hear([(FIRST, 150), (SECOND, 150)])
         self.hear([(FIRST, 0), (SECOND, 150)], tag=8)
         self.assertEqual(self.rp(), SECOND)
-        self.assertEqual(self.listener.given()[IPv4Network("239.0.0.0/8")], SECOND)
+        self.assertEqual(self.listener.given()[0][IPv4Network("239.0.0.0/8")], SECOND)
         self.assertTrue(self.hear([]).moved)
         self.assertIsNone(self.rp())
+
+    def test_each_group_has_its_own_rp(self):
+        """By the values that FRR prints of 239.0.0.0, 418197941, 343260749 and 974265596 of 239.0.0.5, and 612161605,
+        1478452445 and 657310604 of 239.0.0.21."""
+        def rps():
+            return [self.rp(f"239.0.0.{last}") for last in (1, 5, 21)]
+
+        self.hear([(rp, 150, 5) for rp in PRINTED])
+        self.assertEqual(rps(), [FIRST] * 3)
+        self.listener.choose("group")
+        self.assertEqual((rps(), self.rp("239.1.1.1")), ([FIRST, THIRD, SECOND], "10.0.0.99"))
+        self.assertIsNone(self.rp("232.1.1.1"))
+        self.assertEqual(self.listener.given()[0], self.listener.static)
+        self.hear([(FIRST, 150, 6), (SECOND, 150, 6), (THIRD, 150, 7)], tag=8)
+        self.assertEqual(rps(), [FIRST, FIRST, SECOND])
+        self.listener.configure([("239.0.0.0/24", "10.0.0.98"), ("239.0.0.0/8", "10.0.0.97")], 3)
+        self.assertEqual((rps(), self.rp()), (["10.0.0.98"] * 3, "10.0.0.97"))
+        self.listener.configure([], 3)
+        self.assertEqual(rps(), [FIRST, FIRST, SECOND])
 
     def test_a_repetition_is_not_sent_on_where_it_came(self):
         def sent(moment):

@@ -43,9 +43,10 @@ def rows_of(data):
     made = []
     with mock.patch.object(by_document, "Reader", lambda given: made.append(Places(given)) or made[0]):
         state = by_document.read(data)
-    # The count of a list is read as a time is, here of own addresses of no interface, where there are some, of
-    # interfaces, routes and ranges, and before each table.
-    keys, times, rows = iter(made[0].keys), iter(made[0].times[5 if state.addresses else 4:]), []
+    # The count of a list is read as a time is, here of own addresses of no interface and of candidate RPs, where there
+    # are some, of interfaces, routes and ranges, and before each table.
+    counts = 6 if state.candidates else 5 if state.addresses else 4
+    keys, times, rows = iter(made[0].keys), iter(made[0].times[counts:]), []
     for name, table in state.tables.items():
         next(times)
         for _, row in table:

@@ -5,7 +5,7 @@ import unittest
 from ipaddress import IPv4Address
 
 from viqeshor import Answer, Closed, Refused, Router
-from viqeshor.bsr import Bsr, Elected, Heard, LearnedPart, LearnedRp
+from viqeshor.bsr import Bsr, Choice, Elected, Heard, LearnedPart, LearnedRp
 
 HELLOS = [bytes.fromhex("45C0001E000000000167CEAB0A000001E000000D2000DFFC00010002FFFF"),
           bytes.fromhex("45C0001E000000000167CDAA0A000102E000000D2000DFFC00010002FFFF")]
@@ -93,7 +93,7 @@ class Listening(unittest.TestCase):
         saved = self.bsr.save()
         for data, why in ((b"", Answer.CUT_SHORT), (self.router.save(), Answer.NOT_OURS),
                           (saved[:-1] + bytes([saved[-1] ^ 1]), Answer.DAMAGED),
-                          (saved[:4] + bytes([0, 2]) + saved[6:], Answer.OTHER_VERSION)):
+                          (saved[:4] + bytes([0, 3]) + saved[6:], Answer.OTHER_VERSION)):
             with self.assertRaises(Refused) as caught:
                 Bsr.restore(data)
             self.assertEqual(caught.exception.answer, why)
@@ -108,6 +108,27 @@ class Listening(unittest.TestCase):
         self.assertEqual((self.rp(), self.bsr.elected()), (FIRST, None))
         self.bsr.run_to(self.router, 151_005)
         self.assertEqual((self.rp(), self.rp("239.1.1.1"), self.bsr.rps()), (None, STATIC, []))
+
+    def test_each_group_has_its_rp(self):
+        """By the values of the hash function that the worked run has."""
+        groups = "239.0.0.1", "239.0.0.4", "239.1.0.4"
+        self.learn()
+        self.assertEqual((self.bsr.choice(), self.bsr.candidates()), (Choice.RANGE, []))
+        self.assertEqual(self.bsr.choose(self.router, Choice.GROUP), Answer.DONE)
+        self.assertEqual((self.bsr.choice(), self.bsr.given()), (Choice.GROUP, CONFIGURED))
+        self.assertEqual(self.bsr.candidates(), [("239.0.0.0/8", rp, 5, 30) for rp in (SECOND, THIRD, FIRST)])
+        self.assertEqual([self.rp(group) for group in groups], [FIRST, THIRD, STATIC])
+        with Bsr.restore(self.bsr.save()) as again:
+            self.assertEqual((again.choice(), again.save()), (Choice.GROUP, self.bsr.save()))
+            self.assertEqual(again.choose(self.router, Choice.RANGE), Answer.DONE)
+        self.assertEqual([self.rp(group) for group in groups], [FIRST, FIRST, STATIC])
+        self.assertEqual(self.bsr.choose(self.router, Choice.GROUP), Answer.DONE)
+        self.assertEqual(self.bsr.set_ranges(self.router, CONFIGURED, limit=2), Answer.DONE)
+        self.assertEqual([self.rp(group) for group in groups], [SECOND, THIRD, STATIC])
+        self.bsr.run_to(self.router, 151_005)
+        self.assertEqual([self.rp(group) for group in groups], [None, None, STATIC])
+        with self.assertRaises(Refused):
+            self.bsr.choose(self.router, 2)
 
     def test_time_that_passes_at_once_passes_the_ends_on_the_way(self):
         self.learn()

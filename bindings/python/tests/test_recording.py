@@ -15,6 +15,7 @@ from viqeshor.recording import Recorder
 
 LINKS = [("10.0.0.2", 24), ("10.0.1.1", 24)]
 GROUP = "239.1.1.1"
+CANDIDATES = [("239.0.0.0/9", "10.0.0.2", 5, 30), ("239.0.0.0/9", "10.0.1.1", 5, 30)]
 
 
 class Recordings(unittest.TestCase):
@@ -57,10 +58,11 @@ class Recordings(unittest.TestCase):
             self.router.set_guard(False)
             self.router.set_rp_sets([("10.0.0.2", "10.0.1.1", ["10.0.3.7", "10.0.3.8"])])
             self.use()
+            self.router.set_candidates(CANDIDATES)
             self.router.reload(LINKS[::-1], places=[1, 0])
         self.router.up(0)
         differ, told = self.played(f"{self.path}.0")
-        self.assertEqual((differ, len(told.records), told.older_groups), ([], 17, 0))
+        self.assertEqual((differ, len(told.records), told.older_groups), ([], 18, 0))
         self.assertEqual({record.name for record in told.records}, set(recording.KINDS))
         self.assertEqual(told.records[6].answer, Answer.DONE)
         self.assertTrue(any(record.total for record in told.records))
@@ -71,9 +73,10 @@ class Recordings(unittest.TestCase):
             self.router.set_rp_sets([("10.0.0.2", "10.0.1.1", ["10.0.3.7", "10.0.3.8"])])
             self.use()
             self.router.set_rp_sets([])
+            self.router.set_candidates(CANDIDATES)
             self.router.reload(LINKS[:1], places=[None, 0])
         told = recording.read(f"{self.path}.0")
-        head = b"VQRC" + struct.pack(">HIQ", 6, 0, len(told.state))
+        head = b"VQRC" + struct.pack(">HIQ", 7, 0, len(told.state))
         head += struct.pack(">I", zlib.crc32(head)) + told.state
         written = b"".join(map(self.text_of, told.records))
         self.assertEqual(Path(f"{self.path}.0").read_bytes(), head + written)
@@ -87,7 +90,7 @@ class Recordings(unittest.TestCase):
         if record.name in ("frame", "unicast"):
             given += struct.pack(">Q", len(record.data)) + record.data
         elif record.name in recording.LISTS:
-            width = {"routes": 24, "ranges": 12}[record.name]
+            width = {"routes": 24, "ranges": 12, "candidates": 20}[record.name]
             given += struct.pack(">Q", len(record.data) // width) + record.data
         elif record.name == "anycast":
             given += struct.pack(">Q", len(record.numbers))
@@ -250,11 +253,32 @@ class Recordings(unittest.TestCase):
         path.write_bytes(data[:-1])
         cut = recording.read(path)
         self.assertEqual((cut.records, recording.read(path).rest), (whole[:-1], len(self.text_of(whole[-1])) - 1))
-        for given in (b"", data[:10], b"other" + data, data[:4] + struct.pack(">H", 7) + data[6:]):
+        for given in (b"", data[:10], b"other" + data, data[:4] + struct.pack(">H", 8) + data[6:]):
             path.write_bytes(given)
             self.assertRaises(recording.Unreadable, recording.read, path)
         path.write_bytes(data + b"?")
         self.assertEqual((recording.read(path).records, recording.read(path).rest), (whole, 1))
+
+    def test_candidates_are_as_they_were(self):
+        with Recorder(self.router, self.path, most=4096):
+            self.router.set_candidates(CANDIDATES * 2)
+            self.router.set_candidates(CANDIDATES)
+            self.use(200)
+        self.assertEqual(self.router.tree(GROUP).rp, "10.0.0.2")
+        for path in recording.newest(self.path):
+            self.assertEqual(self.played(path)[0], [])
+            with recording.restored(recording.read(path)) as router:
+                self.assertEqual(router.tree(GROUP).rp, "10.0.0.2")
+
+    def test_no_candidates_are_older_than_version_7(self):
+        with Recorder(self.router, self.path):
+            self.router.up(0)
+            self.router.set_candidates(CANDIDATES)
+        told = recording.read(f"{self.path}.0")
+        head = recording.summed(b"VQRC" + struct.pack(">HIQ", 6, 0, len(told.state))) + told.state
+        self.path.write_bytes(head + b"".join(map(self.text_of, told.records)))
+        again = recording.read(self.path)
+        self.assertEqual((again.version, again.records), (6, told.records[:1]))
 
     def test_sets_of_rps_are_as_they_were(self):
         inner = hosts.data("10.0.3.5", GROUP)

@@ -14,8 +14,9 @@ import zlib
 from unittest import mock
 
 import viqeshor
-from viqeshor import Answer, Closed, DownstreamRow, NeighbourRow, Refused, Router, hosts
+from viqeshor import Answer, Candidate, Closed, DownstreamRow, NeighbourRow, Refused, Router, hosts
 from viqeshor.lab import facts, packets
+from viqeshor.lab import rps as lab_rps
 
 HELLO_ABOVE = "45C0001E000000000167CEAB0A000001E000000D2000DFFC00010002FFFF"
 HELLO_BELOW = "45C0001E000000000167CDAA0A000102E000000D2000DFFC00010002FFFF"
@@ -74,7 +75,53 @@ class Routers(unittest.TestCase):
 
     def test_lists_are_replaced(self):
         router = self.router()
-        self.assertEqual((router.set_routes([]), router.set_ranges([])), (Answer.DONE, Answer.DONE))
+        answers = router.set_routes([]), router.set_ranges([]), router.set_candidates([])
+        self.assertEqual(answers, (Answer.DONE,) * 3)
+
+    def test_a_range_has_several_rps(self):
+        """By RFC 7761, 4.7.2, Value(239.1.1.1, M, C) is 1,909,564,438 of 10.8.8.8 and 458,221,737 of 10.9.9.9 with a
+        mask of 30 bits, 464,069,967 and 1,219,757,756 with one of 32."""
+        eight, nine, other, router = "10.8.8.8", "10.9.9.9", "10.0.3.9", self.router()
+        eight_of_30 = Candidate("239.0.0.0/8", eight, 7)
+        for candidates, wanted in (
+            ([("239.0.0.0/8", nine, 7, 30), eight_of_30], eight),
+            ([("239.0.0.0/8", nine, 7, 32), ("239.0.0.0/8", eight, 7, 32)], nine),
+            ([("239.0.0.0/8", nine, 6, 30), eight_of_30], nine),
+            ([("239.0.0.0/8", nine, 7, 30), eight_of_30, ("239.0.0.0/12", other, 9, 0)], other),
+            ([("224.0.0.0/4", eight, 0, 30)], nine),
+        ):
+            self.assertEqual((router.set_candidates(candidates), router.tree("239.1.1.1").rp), (Answer.DONE, wanted))
+        kept = [eight_of_30, ("239.0.0.0/8", other, 7, 30)]
+        self.assertEqual((router.set_candidates(kept), router.set_ranges([])), (Answer.DONE, Answer.DONE))
+        self.assertEqual(router.set_candidates(kept[:1] * 2), Answer.BAD_CANDIDATES)
+        router.reload(INTERFACES, RANGES, ROUTES)
+        self.assertEqual(router.tree("239.1.1.1").rp, eight)
+        saved = router.save()
+        self.assertEqual(saved[:6], b"VQST\0\4")
+        with Router.restore(saved) as again:
+            self.assertEqual((again.tree("239.1.1.1").rp, again.save()), (eight, saved))
+        self.assertEqual((router.set_candidates([]), router.tree("239.1.1.1").rp), (Answer.DONE, nine))
+
+    def test_the_rp_is_that_of_the_rfc(self):
+        """Random ranges and candidates, against a reading of RFC 7761, 4.7.1 and 4.7.2, that is written apart."""
+        draws, router, told = random.Random(4711), self.router(), set()
+        prefixes = list(map(ipaddress.IPv4Network, ("224.0.0.0/4", "239.0.0.0/8", "239.1.0.0/16", "239.1.1.0/30")))
+        rps = ["10.8.8.8", "10.9.9.9", "10.0.3.9", "10.77.0.2"]
+        for _ in range(100):
+            ranges = [(net, draws.choice(rps)) for net in prefixes if draws.random() < 0.3]
+            named = draws.sample([(net, rp) for net in prefixes for rp in rps], draws.randint(0, 12))
+            candidates = [lab_rps.Candidate(*each, draws.choice((0, 5, 5, 5)), draws.choice((0, 24, 30, 30, 32)))
+                          for each in named]
+            router.set_ranges([(str(net), rp) for net, rp in ranges])
+            router.set_candidates([(str(net), *rest) for net, *rest in candidates])
+            for group in ("239.1.1.1", "239.1.1.9", "239.1.7.1", "239.9.1.1", "225.1.1.1", "232.1.1.1"):
+                found = lab_rps.rp_among(ranges, candidates, group)
+                self.assertEqual(router.tree(group).rp, found[1] if found else None, (group, ranges, candidates))
+                told.add(found)
+        self.assertEqual((len(told) > 12, None in told), (True, True))
+        # As FRR 8.4.4 printed them (`show ip pim bsrp-info`).
+        printed = {"10.99.0.1": 2067580945, "10.88.0.9": 240866473, "10.77.0.2": 53588824}
+        self.assertEqual({rp: lab_rps.hashed(30, ipaddress.IPv4Address("239.0.0.0"), rp) for rp in printed}, printed)
 
     def test_another_configuration(self):
         router = self.joined()

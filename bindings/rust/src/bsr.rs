@@ -1,6 +1,6 @@
 //! RPs that are learned of Bootstraps (RFC 5059).
 use crate::raw::{Draw, Range as CRange};
-use crate::{done, ends, verdict, Error, Range, Reason, Router, Target, Verdict, ABI, DONE, MOST_BYTES};
+use crate::{done, ends, verdict, Candidate, Error, Range, Reason, Router, Target, Verdict, ABI, DONE, MOST_BYTES};
 use std::ffi::c_void;
 use std::fmt;
 use std::net::Ipv4Addr;
@@ -8,6 +8,18 @@ use std::ptr::{null_mut, NonNull};
 
 /// The latest timestamp of an event, in ms.
 const LAST_MOMENT: u64 = 1 << 62;
+
+/// What an RP is chosen for, of several that a learned range has.
+#[derive(Clone, Copy, Debug, PartialEq, Eq)]
+pub enum Choice {
+    /// For the range, by the hash of its prefix: all its groups have one RP, as with FRR.
+    Range,
+    /// For each group, by the hash of the group (RFC 7761, section 4.7.2).
+    Group,
+}
+
+/// The number of a choice for each group.
+const FOR_GROUP: u32 = 1;
 
 /// The elected bootstrap router.
 #[derive(Clone, Copy, Debug, PartialEq, Eq)]
@@ -31,7 +43,7 @@ pub struct LearnedRp {
     pub priority: u32,
     /// The bits of the hash function's mask.
     pub hash_length: u32,
-    /// The router is given it: its range isn't configured, and it is the one that is chosen of its range.
+    /// The router is given it: as the one that is chosen of its range, which isn't configured, or as a candidate.
     pub is_given: bool,
     /// When its holdtime is over, in ms.
     pub end: u64,
@@ -64,13 +76,14 @@ pub enum Heard {
     Ignored(Reason),
     /// It counts, and is sent on.
     Taken {
-        /// The router is to be given other ranges.
+        /// The router is to be given other RPs.
         moved: bool,
     },
 }
 
-/// A listener, which hears Bootstraps before a [`Router`] and says which ranges the router is to have: the configured ones,
-/// and of each learned range the RP that a hash of the range's prefix chooses.
+/// A listener, which hears Bootstraps before a [`Router`] and says which RPs the router is to have: those of the configured
+/// ranges, and of each learned range the one that a hash of the range's prefix chooses, or all as candidates, of which it
+/// chooses for each group ([`Bsr::choose`]).
 ///
 /// With a listener a program calls [`Bsr::frame`] in the place of [`Router::frame`], [`Bsr::run_to`] in the place of
 /// [`Router::run_to`], and [`Bsr::set_ranges`] in the place of [`Router::set_ranges`]; the next timestamp at which time is
@@ -170,7 +183,7 @@ impl Bsr {
     // ---- whole steps
 
     /// A packet came on an interface, to a group, as by `Router::frame`. Where the router ignores it for its type the
-    /// listener hears it, and where the ranges moved the router is given them. Each packet that leaves is passed to `send`
+    /// listener hears it, and where the RPs moved the router is given them. Each packet that leaves is passed to `send`
     /// with its bytes. Returns what the router made of the packet, or else the listener.
     pub fn frame(
         &mut self,
@@ -197,7 +210,7 @@ impl Bsr {
     }
 
     /// Time passes up to a timestamp, as by `Router::advance`, and on the way to the end of each RP, where the router is
-    /// given other ranges. Each packet that leaves is passed to `send`.
+    /// given other RPs. Each packet that leaves is passed to `send`.
     pub fn advance(
         &mut self,
         router: &mut Router,
@@ -263,7 +276,33 @@ impl Bsr {
         Ok(())
     }
 
+    /// Has an RP chosen for something else: the router is given the RPs so, and what the former choice gave it goes. Each
+    /// packet that leaves is passed to `send`.
+    pub fn choose(
+        &mut self,
+        router: &mut Router,
+        choice: Choice,
+        draw: u32,
+        mut send: impl FnMut(Target, &[u8]),
+    ) -> Result<Verdict, Error> {
+        self.set_choice(choice)?;
+        self.give_if(true, router, draw, &mut send)?;
+        let verdict = match choice {
+            Choice::Range => router.set_candidates(&[], draw)?,
+            Choice::Group => router.set_ranges(&self.configured, draw)?,
+        };
+        send_all(router, &mut send);
+        Ok(verdict)
+    }
+
     // ---- the steps one by one
+
+    /// Has an RP chosen for something else, which is no event, and the first step of `choose`: `give` follows, and then what
+    /// the former choice gave goes.
+    pub fn set_choice(&mut self, choice: Choice) -> Result<(), Error> {
+        // SAFETY: the listener is there and borrowed alone.
+        done(unsafe { viq_bsr_choose(self.at_mut(), u32::from(choice == Choice::Group)) })
+    }
 
     /// Hears a packet that came on an interface, and that the router ignored by `Reason::OtherType`. What is sent on is
     /// then to be taken of the router. An `Err` changes nothing: `Refusal::Full` where there is no room for the RPs, other
@@ -281,7 +320,8 @@ impl Bsr {
         }
     }
 
-    /// An event of the router: its ranges are replaced by those that the listener has for it.
+    /// An event of the router: its ranges are replaced by those that the listener has for it, or its candidates where an RP
+    /// is chosen for each group.
     pub fn give(&self, router: &mut Router, draw: u32) -> Result<Verdict, Error> {
         // SAFETY: the listener is there, and the router is there and borrowed alone.
         verdict(unsafe { viq_bsr_give(self.at.as_ptr(), router.at_mut(), Draw { bits: draw }) })
@@ -293,7 +333,7 @@ impl Bsr {
         ends(unsafe { viq_bsr_next(self.at.as_ptr()) })
     }
 
-    /// Time passed to a timestamp: what has expired is forgotten. Returns whether the router is to be given other ranges.
+    /// Time passed to a timestamp: what has expired is forgotten. Returns whether the router is to be given other RPs.
     pub fn pass(&mut self, moment: u64) -> Result<bool, Error> {
         let mut moved = false;
         // SAFETY: the listener is there and borrowed alone.
@@ -302,7 +342,8 @@ impl Bsr {
     }
 
     /// Other configured ranges, and another limit as in `new`: an event of the router, whose ranges are replaced by these
-    /// and the learned ones beside them. Where it isn't done the listener stays as it is.
+    /// and the learned ones beside them. Where it isn't done the listener stays as it is. Where an RP is chosen for each
+    /// group the ranges are these alone, and `give` follows where it is done: there may be room for fewer candidates.
     pub fn set_ranges(
         &mut self,
         router: &mut Router,
@@ -375,15 +416,38 @@ impl Bsr {
         })
     }
 
+    /// What an RP is chosen for; of a new listener a range.
+    pub fn choice(&self) -> Choice {
+        // SAFETY: the listener is there.
+        match unsafe { viq_bsr_choice(self.at.as_ptr()) } {
+            FOR_GROUP => Choice::Group,
+            _ => Choice::Range,
+        }
+    }
+
     /// The configured ranges.
     pub fn configured(&self) -> &[Range] {
         &self.configured
     }
 
-    /// The ranges that the router is given: the configured ones, and those of the RPs that it is given.
+    /// The ranges that the router is given: the configured ones, and where an RP is chosen for a range those of the RPs that
+    /// it is given.
     pub fn given(&self) -> Vec<Range> {
-        let learned = self.rps().into_iter().filter(|rp| rp.is_given).map(|rp| rp.range);
+        let learned = match self.choice() {
+            Choice::Range => self.rps(),
+            Choice::Group => Vec::new(),
+        };
+        let learned = learned.into_iter().filter(|rp| rp.is_given).map(|rp| rp.range);
         self.configured.iter().copied().chain(learned).collect()
+    }
+
+    /// The candidates that the router is given: all RPs in force where one is chosen for each group, else none.
+    pub fn candidates(&self) -> Vec<Candidate> {
+        let offered = match self.choice() {
+            Choice::Range => Vec::new(),
+            Choice::Group => self.rps(),
+        };
+        offered.iter().map(|rp| Candidate::new(rp.range, rp.priority, rp.hash_length)).collect()
     }
 
     fn at_mut(&mut self) -> *mut c_void {
@@ -465,6 +529,8 @@ extern "C" {
         count: usize,
         draw: Draw,
     ) -> u32;
+    fn viq_bsr_choose(bsr: *mut c_void, choice: u32) -> u32;
+    fn viq_bsr_choice(bsr: *const c_void) -> u32;
     fn viq_bsr_configured(bsr: *const c_void) -> usize;
     fn viq_bsr_range(bsr: *const c_void, index: usize, range: *mut CRange) -> bool;
     fn viq_bsr_elected(bsr: *const c_void, elected: *mut raw::Elected) -> bool;

@@ -34,7 +34,7 @@ mod record;
 mod rows;
 mod trees;
 
-pub use bsr::{Bsr, Elected, Heard, LearnedPart, LearnedRp};
+pub use bsr::{Bsr, Choice, Elected, Heard, LearnedPart, LearnedRp};
 pub use record::Call;
 pub use rows::{
     ActiveRow, AssertRow, DownstreamRow, DownstreamState, GroupRow, NeighbourRow, RegisterState, Row, RptRow,
@@ -45,7 +45,7 @@ pub use trees::{Hop, LanDelay, Link, Neighbour, Path, Querier, Querying, Rpf, Rp
 /// The most bytes that a packet has.
 pub const MOST_BYTES: usize = 1528;
 /// What this crate and the library have to agree on: `VIQ_ABI` of `viqeshor.h`.
-pub const ABI: u32 = 11;
+pub const ABI: u32 = 12;
 
 const DONE: u32 = 0;
 const MEMORY: u32 = 40;
@@ -196,6 +196,29 @@ impl Range {
 
     fn given(&self) -> raw::Range {
         raw::Range { prefix: self.prefix.into(), length: self.length, rp: self.rp.into() }
+    }
+}
+
+/// An RP of a range of groups, which may have several: of each group one of them is chosen (RFC 7761, section 4.7.1).
+#[derive(Clone, Copy, Debug, PartialEq, Eq)]
+pub struct Candidate {
+    /// The range and its RP.
+    pub range: Range,
+    /// At most 255; the lower is preferred.
+    pub priority: u32,
+    /// The bits of the hash function's mask, at most 32; 30 is usual.
+    pub hash_length: u32,
+}
+
+impl Candidate {
+    /// Of a range with its RP.
+    pub fn new(range: Range, priority: u32, hash_length: u32) -> Candidate {
+        Candidate { range, priority, hash_length }
+    }
+
+    fn given(&self) -> raw::Candidate {
+        let raw::Range { prefix, length, rp } = self.range.given();
+        raw::Candidate { prefix, length, rp, priority: self.priority, hash_length: self.hash_length }
     }
 }
 
@@ -389,6 +412,8 @@ numbered! {
         OwnAddresses = 70,
         /// A map of places that doesn't name each interface once.
         PlacesDontFit = 73,
+        /// Candidate RPs that can't stand.
+        BadCandidates = 76,
         /// Sets of RPs that share an address, which the router can't have.
         BadRpSet = 74,
         /// The bytes are no saved state.
@@ -535,7 +560,7 @@ fn verdict(answer: u32) -> Result<Verdict, Error> {
     }
 }
 
-/// The first item of a list of routes or ranges that can't stand.
+/// The first item of a list of routes, ranges or candidates that can't stand.
 #[derive(Clone, Copy, Debug, PartialEq, Eq)]
 pub struct RefusedAt {
     /// Counted from 0.
@@ -579,6 +604,15 @@ pub fn refused_range(ranges: &[Range]) -> Option<RefusedAt> {
     let mut at = raw::RefusedAt::default();
     // SAFETY: the list is passed as its pointer and its length.
     let is_refused = unsafe { viq_ranges_refused_at(ranges.as_ptr(), ranges.len(), &mut at) };
+    is_refused.then_some(RefusedAt { index: at.index, reason: at.reason })
+}
+
+/// Which candidate is refused, and why: after `Refusal::BadCandidates`.
+pub fn refused_candidate(candidates: &[Candidate]) -> Option<RefusedAt> {
+    let candidates: Vec<_> = candidates.iter().map(Candidate::given).collect();
+    let mut at = raw::RefusedAt::default();
+    // SAFETY: the list is passed as its pointer and its length.
+    let is_refused = unsafe { viq_candidates_refused_at(candidates.as_ptr(), candidates.len(), &mut at) };
     is_refused.then_some(RefusedAt { index: at.index, reason: at.reason })
 }
 
@@ -920,6 +954,15 @@ mod raw {
     }
 
     #[repr(C)]
+    pub struct Candidate {
+        pub prefix: u32,
+        pub length: u32,
+        pub rp: u32,
+        pub priority: u32,
+        pub hash_length: u32,
+    }
+
+    #[repr(C)]
     pub struct RpSet {
         pub shared: u32,
         pub own: u32,
@@ -982,6 +1025,7 @@ extern "C" {
         at: *mut raw::RefusedAt,
     ) -> bool;
     fn viq_ranges_refused_at(ranges: *const raw::Range, count: usize, at: *mut raw::RefusedAt) -> bool;
+    fn viq_candidates_refused_at(candidates: *const raw::Candidate, count: usize, at: *mut raw::RefusedAt) -> bool;
     fn viq_refused_text(reason: u32) -> *const c_char;
     fn viq_message(packet: *const u8, length: usize) -> u32;
     fn viq_message_text(message: u32) -> *const c_char;
@@ -1040,6 +1084,7 @@ extern "C" {
     fn viq_down(router: *mut c_void, iface: u32, draw: Draw) -> u32;
     fn viq_routes(router: *mut c_void, routes: *const raw::Route, count: usize, draw: Draw) -> u32;
     fn viq_ranges(router: *mut c_void, ranges: *const raw::Range, count: usize, draw: Draw) -> u32;
+    fn viq_candidates(router: *mut c_void, candidates: *const raw::Candidate, count: usize, draw: Draw) -> u32;
     fn viq_packets(router: *const c_void) -> usize;
     fn viq_take(router: *mut c_void, packet: *mut raw::Packet, room: *mut u8, room_length: usize) -> bool;
     fn viq_clear(router: *mut c_void);
@@ -1343,6 +1388,15 @@ impl Router {
         let given: Vec<_> = ranges.iter().map(Range::given).collect();
         // SAFETY: as of `set_routes`.
         verdict(unsafe { viq_ranges(self.at_mut(), given.as_ptr(), given.len(), Draw { bits: draw }) })
+    }
+
+    /// All candidate RPs are replaced, at most 256; a new router has none. The RP ranges stay, as the candidates do with
+    /// `set_ranges` and `reload`. Where a range contains a group as well, the longer prefix of the two decides, and of one
+    /// prefix the range has the RP; `tree` tells the RP of a group.
+    pub fn set_candidates(&mut self, candidates: &[Candidate], draw: u32) -> Result<Verdict, Error> {
+        let given: Vec<_> = candidates.iter().map(Candidate::given).collect();
+        // SAFETY: as of `set_routes`.
+        verdict(unsafe { viq_candidates(self.at_mut(), given.as_ptr(), given.len(), Draw { bits: draw }) })
     }
 
     // ---- what is to be sent

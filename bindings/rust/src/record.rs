@@ -1,5 +1,7 @@
 //! Records of what a router took (docs/LIBRARY.md, "A recording").
-use crate::{done, given_others, given_places, given_sets, raw, Error, Interface, Range, Route, RpSet, Settings};
+use crate::{
+    done, given_others, given_places, given_sets, raw, Candidate, Error, Interface, Range, Route, RpSet, Settings,
+};
 
 /// A call that a router took, and what it answered. A field that its kind of call doesn't have isn't read.
 #[repr(C)]
@@ -45,6 +47,14 @@ extern "C" {
     fn viq_record_ranges(
         call: *const Call,
         ranges: *const raw::Range,
+        count: usize,
+        room: *mut u8,
+        room_length: usize,
+        size: *mut usize,
+    ) -> u32;
+    fn viq_record_candidates(
+        call: *const Call,
+        candidates: *const raw::Candidate,
         count: usize,
         room: *mut u8,
         room_length: usize,
@@ -128,6 +138,16 @@ impl Call {
         put(to, 12 * ranges.len() + 64, |room, size| {
             // SAFETY: the list and the room are passed as their pointers and their lengths.
             unsafe { viq_record_ranges(self, ranges.as_ptr(), ranges.len(), room.as_mut_ptr(), room.len(), size) }
+        })
+    }
+
+    /// Puts the record of new candidate RPs behind others.
+    pub fn put_candidates(&self, candidates: &[Candidate], to: &mut Vec<u8>) -> Result<(), Error> {
+        let candidates: Vec<_> = candidates.iter().map(Candidate::given).collect();
+        put(to, 20 * candidates.len() + 64, |room, size| {
+            let (at, count) = (candidates.as_ptr(), candidates.len());
+            // SAFETY: the list and the room are passed as their pointers and their lengths.
+            unsafe { viq_record_candidates(self, at, count, room.as_mut_ptr(), room.len(), size) }
         })
     }
 

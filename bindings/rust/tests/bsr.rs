@@ -2,7 +2,7 @@
 //! follows of them are those of the worked runs of `crates/pim_bsr/specs/Runs.antt`.
 use std::net::Ipv4Addr;
 use viqeshor::{
-    message, Bsr, Error, Heard, Interface, Range, Reason, Refusal, Route, Router, Settings, Target, Verdict,
+    message, Bsr, Choice, Error, Heard, Interface, Range, Reason, Refusal, Route, Router, Settings, Target, Verdict,
 };
 
 const HELLO_ABOVE: &str = "45C0001E000000000167CEAB0A000001E000000D2000DFFC00010002FFFF";
@@ -202,6 +202,26 @@ fn the_chosen_rp_is_the_routers_until_its_end() {
     bsr.run_to(&mut router, 151_005, || 7, |_, _| ()).unwrap();
     assert_eq!((rp(&router, [239, 9, 9, 9]), bsr.next_end()), (None, None));
     assert_eq!(rp(&router, [239, 1, 1, 1]), Some(address(STATIC)));
+}
+
+/// By the values of the hash function that the worked run has.
+#[test]
+fn each_group_has_its_rp() {
+    let (mut bsr, mut router) = learned();
+    assert_eq!(bsr.choice(), Choice::Range);
+    assert_eq!(bsr.choose(&mut router, Choice::Group, 7, |_, _| ()), DONE);
+    assert_eq!(bsr.choice(), Choice::Group);
+    assert_eq!(bsr.given(), configured());
+    assert!(bsr.rps().iter().all(|rp| rp.is_given));
+    let rps = |router: &Router| [[239, 0, 0, 1], [239, 0, 0, 4], [239, 1, 0, 4]].map(|group| rp(router, group));
+    assert_eq!(rps(&router), [FIRST, THIRD, STATIC].map(|last| Some(address(last))));
+    let mut again = Bsr::restore(&bsr.save().unwrap()).unwrap();
+    assert_eq!((again.choice(), again.save()), (Choice::Group, bsr.save()));
+    assert_eq!(again.choose(&mut router, Choice::Range, 7, |_, _| ()), DONE);
+    assert_eq!(rps(&router), [FIRST, FIRST, STATIC].map(|last| Some(address(last))));
+    assert_eq!(bsr.choose(&mut router, Choice::Group, 7, |_, _| ()), DONE);
+    bsr.run_to(&mut router, 151_005, || 7, |_, _| ()).unwrap();
+    assert_eq!(rps(&router), [None, None, Some(address(STATIC))]);
 }
 
 #[test]

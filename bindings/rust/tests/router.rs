@@ -1,10 +1,10 @@
 //! Each call of the crate once, and what it answers: a Join of 10.0.1.2 comes and a packet of its source, as in `examples/library`.
 use std::net::Ipv4Addr;
 use viqeshor::{
-    message, refused_range, refused_route, ActiveRow, Asks, Call, DownstreamRow, DownstreamState, Error, GroupRow, Hop,
-    Interface, NeighbourRow, NoPrefix, OlderHosts, OlderRow, Prefix, Querier, QueryVersion, Range, Reason, Received,
-    Refusal, RefusedAt, Route, Router, Row, RpSet, Rpf, RptState, Sent, Settings, Table, Target, UpstreamRow, Verdict,
-    MOST_BYTES,
+    message, refused_candidate, refused_range, refused_route, ActiveRow, Asks, Call, Candidate, DownstreamRow,
+    DownstreamState, Error, GroupRow, Hop, Interface, NeighbourRow, NoPrefix, OlderHosts, OlderRow, Prefix, Querier,
+    QueryVersion, Range, Reason, Received, Refusal, RefusedAt, Route, Router, Row, RpSet, Rpf, RptState, Sent,
+    Settings, Table, Target, UpstreamRow, Verdict, MOST_BYTES,
 };
 
 const HELLO_ABOVE: &str = "45C0001E000000000167CEAB0A000001E000000D2000DFFC00010002FFFF";
@@ -32,6 +32,11 @@ fn routes() -> [Route; 2] {
 
 fn ranges() -> [Range; 1] {
     [Range::new(address([224, 0, 0, 0]), 4, address([10, 9, 9, 9]))]
+}
+
+/// Of a range of 239.0.0.0 of this length.
+fn candidate(length: u32, rp: [u8; 4], priority: u32, hash_length: u32) -> Candidate {
+    Candidate::new(Range::new(address([239, 0, 0, 0]), length, address(rp)), priority, hash_length)
 }
 
 fn router() -> Router {
@@ -92,6 +97,13 @@ fn which_item_is_refused() {
     assert_eq!(refused_route(&own, &interfaces(), &routes()), Some(RefusedAt { index: 0, reason: 5 }));
     assert_eq!(at.to_string(), "number 1, its next hop is the router's own");
     assert_eq!(refused_range(&[ranges()[0]; 2]), Some(RefusedAt { index: 1, reason: 8 }));
+    let good = candidate(8, [10, 8, 8, 8], 255, 32);
+    let wrong = [(Candidate { priority: 256, ..good }, 10), (Candidate { hash_length: 33, ..good }, 11), (good, 12)];
+    for (wrong, reason) in wrong {
+        assert_eq!(refused_candidate(&[good, wrong]), Some(RefusedAt { index: 1, reason }));
+        assert_eq!(router().set_candidates(&[good, wrong], 0), Err(Error::Refused(Refusal::BadCandidates)));
+    }
+    assert_eq!(refused_candidate(&[good, candidate(9, [10, 8, 8, 8], 0, 0)]), None);
 }
 
 /// They are the router's, and no interface has them.
@@ -166,6 +178,33 @@ fn lists_are_replaced() {
     let mut router = router();
     assert_eq!(router.set_routes(&[], 0), DONE);
     assert_eq!(router.set_ranges(&[], 0), DONE);
+    assert_eq!(router.set_candidates(&[], 0), DONE);
+}
+
+/// By RFC 7761, 4.7.2, Value(239.1.1.1, M, C) is 1,909,564,438 of 10.8.8.8 and 458,221,737 of 10.9.9.9 with a mask of 30
+/// bits, 464,069,967 and 1,219,757,756 with one of 32.
+#[test]
+fn a_range_has_several_rps() {
+    let mut router = router();
+    let (eight, nine, other) = ([10, 8, 8, 8], [10, 9, 9, 9], [10, 0, 3, 9]);
+    let rp = |router: &Router| router.tree(address([239, 1, 1, 1])).unwrap().rp;
+    for (candidates, wanted) in [
+        (vec![candidate(8, nine, 7, 30), candidate(8, eight, 7, 30)], eight),
+        (vec![candidate(8, nine, 7, 32), candidate(8, eight, 7, 32)], nine),
+        (vec![candidate(8, nine, 6, 30), candidate(8, eight, 7, 30)], nine),
+        (vec![candidate(8, nine, 7, 30), candidate(8, eight, 7, 30), candidate(12, other, 9, 0)], other),
+        (vec![Candidate::new(Range { rp: address(eight), ..ranges()[0] }, 0, 30)], nine),
+    ] {
+        assert_eq!((router.set_candidates(&candidates, 0), rp(&router)), (DONE, Some(address(wanted))));
+    }
+    let saved = [candidate(8, eight, 7, 30), candidate(8, other, 7, 30)];
+    assert_eq!((router.set_candidates(&saved, 0), router.set_ranges(&[], 0)), (DONE, DONE));
+    assert_eq!(rp(&router), Some(address(eight)));
+    router.reload(&Settings::default(), &interfaces(), &routes(), &ranges(), 7).expect("taken");
+    let again = Router::restore(&router.save().unwrap()).unwrap();
+    assert_eq!((rp(&router), rp(&again)), (Some(address(eight)), Some(address(eight))));
+    assert_eq!(&router.save().unwrap()[..6], b"VQST\0\x04");
+    assert_eq!((router.set_candidates(&[], 0), rp(&router)), (DONE, Some(address(nine))));
 }
 
 #[test]
@@ -432,6 +471,7 @@ fn no_packet_is_lost_or_given_twice() {
         router.down(9, 0),
         router.set_routes(&routes(), 0),
         router.set_ranges(&ranges(), 0),
+        router.set_candidates(&[], 0),
         router.seen(0, address([10, 0, 3, 5]), address([225, 1, 1, 1]), 0),
     ] {
         assert_eq!(answer, Err(Error::Untaken));
@@ -481,6 +521,7 @@ fn what_is_recorded() {
     call.put(&[], &mut put).unwrap();
     Call { letter: b'f'.into(), ..call }.put(&[1, 2, 3], &mut put).unwrap();
     call.put_ranges(&ranges(), &mut put).unwrap();
+    call.put_candidates(&[candidate(8, [10, 9, 9, 9], 5, 30)], &mut put).unwrap();
     let many = vec![routes()[0]; 20];
     call.put_routes(&many, &mut put).unwrap();
     let (range, route) = ([0xe000_0000, 4, 0x0a09_0909], [0x0a09_0900, 24, 0x0a00_0001, 0, 110, 20]);
@@ -488,6 +529,7 @@ fn what_is_recorded() {
     let mut wanted = [vec![5], summed(&[vec![b'+'], words(&[7, 1]), end.clone()].concat())].concat();
     wanted.extend(summed(&[vec![b'f'], words(&[7, 1, 0, 3]), vec![1, 2, 3], end.clone()].concat()));
     wanted.extend(summed(&[vec![b'g'], words(&[7, 0, 1]), words(&range), end.clone()].concat()));
+    wanted.extend(summed(&[vec![b'h'], words(&[7, 0, 1, 0xef00_0000, 8, 0x0a09_0909, 5, 30]), end.clone()].concat()));
     wanted.extend(summed(&[vec![b'r'], words(&[7, 0, 20]), words(&route).repeat(20), end.clone()].concat()));
     assert_eq!(put, wanted);
     let settings = Settings { addresses: vec![address([10, 255, 0, 1])], ..Settings::default() };

@@ -1,5 +1,6 @@
 pub mod Carrying
 pub mod Keeping
+pub mod Learning
 pub mod Wires
 pub mod Queries
 pub mod Settling

@@ -22,3 +22,4 @@ kind_heard st (EventKind.Up i) = EventKind.Up i
 kind_heard st (EventKind.Down i) = EventKind.Down i
 kind_heard st (EventKind.Routes routes) = EventKind.Routes routes
 kind_heard st (EventKind.Rps rps) = EventKind.Rps rps
+kind_heard st (EventKind.RpCandidates candidates) = EventKind.RpCandidates candidates

@@ -3,6 +3,7 @@
 #![tactic(auto)]
 
 mod frames;
+mod learned;
 mod line;
 mod lines;
 pub mod memory;
@@ -14,6 +15,7 @@ pub mod udp;
 pub mod wire;
 
 pub use frames::{Delivery, Departure, Frame, Frames};
+pub use learned::{ElectedLine, HeardLine, LearnedLine, Learning};
 pub use line::{BadSetsLine, GuardedLine, MoveLine, PacketLine, Way};
 pub use lines::Lines;
 pub use memory::MemoryWire;

@@ -1,14 +1,17 @@
 //! The routers of a scenario, as they are printed and found.
+ghost use Rattle.lab_parts.specs.Learning.{new_listener};
 ghost use Rattle.lab_parts.specs.Queries.{bytes_heard, hears_queries, kind_heard};
 ghost use Rattle.lab_parts.specs.Stations.{nobody_behind, own_addresses};
 ghost use Rattle.pim_guard.specs.Guard.{is_stopped};
 ghost use Rattle.std.specs.Prelude.{◌≡◌, IfOk, map};
 
+use crate::learned::{HeardLine, Learning};
 use crate::line::{BadSetsLine, GuardedLine, MoveLine, PacketLine, Way};
 use igmp_older::{
     OlderHosts, Presence, PresentRow, QueryVersion, ResponseTimes, cut_query, translate_query,
 };
 use pim_anycast::Anycast;
+use pim_bsr::{Heard, Listener};
 use pim_guard::{stops_frame, stops_unicast};
 use pim_scenario::{FrontText, Link};
 use pim_types::{Addr, Config, Emission, Event, EventKind, IfaceId, Key, Refusal, Series, Verdict};
@@ -20,6 +23,8 @@ pub struct Fronts {
     pub text: FrontText,
     /// The sets of RPs that share an address.
     pub anycast: Anycast,
+    /// The listener for Bootstraps, if there is one.
+    pub learning: Option<Learning>,
 }
 
 /// What the lab knows of another configuration.
@@ -67,6 +72,8 @@ pub struct Station {
     pub presence: Presence,
     /// The router's front for sets of RPs that share an address. Without a set it changes nothing.
     pub anycast: Anycast,
+    /// The listener for Bootstraps, if they are heard.
+    pub listener: Option<Listener>,
     /// The version in which the router queries.
     pub version: QueryVersion,
     /// Whether a guard stands before the router.
@@ -87,9 +94,14 @@ impl Station {
         ensures addresses { IfOk result (λ station. station.addresses ≡ own_addresses config.now) }
         ensures presence { IfOk result (λ station. station.presence ≡ nobody_behind config.now fronts.text.older_hosts) }
         ensures sets { IfOk result (λ station. station.anycast ≡ fronts.anycast) }
+        ensures listener { IfOk result (λ station. station.listener ≡ new_listener fronts.learning) }
     {
         let addresses = addresses_of(alloc, config)?;
-        let Fronts { text, anycast } = fronts;
+        let Fronts {
+            text,
+            anycast,
+            learning,
+        } = fronts;
         let presence = presence_of(alloc, config, text.older_hosts)?;
         Ok(Station {
             name,
@@ -97,6 +109,7 @@ impl Station {
             addresses,
             presence,
             anycast,
+            listener: new_listener(alloc, learning),
             version: text.query_version,
             guard: text.guard,
             times: times_of(config),
@@ -104,8 +117,9 @@ impl Station {
     }
 
     /// Puts the router's interfaces on other links, and its front under another configuration. What the front heard goes
-    /// with its interface; what it heard on interfaces that are removed, or that get another setting, is forgotten.
-    pub fn reload(&mut self, reloaded: Reloaded) -> Result<(), AllocError> {
+    /// with its interface; what it heard on interfaces that are removed, or that get another setting, is forgotten. What
+    /// a listener learned stays where Bootstraps are still heard.
+    pub fn reload(&mut self, alloc: Global, reloaded: Reloaded) -> Result<(), AllocError> {
         let Reloaded {
             links,
             addresses,
@@ -114,7 +128,11 @@ impl Station {
             times,
             places,
         } = reloaded;
-        let Fronts { text, anycast } = fronts;
+        let Fronts {
+            text,
+            anycast,
+            learning,
+        } = fronts;
         let count = u32::try_from(links.len()).map_err(|_| AllocError)?;
         if places.is_empty() {
             self.presence.resize(limit as usize, count)?;
@@ -124,12 +142,23 @@ impl Station {
         }
         set_hosts(&mut self.presence, count, text.older_hosts);
         self.anycast = anycast;
+        self.listen(alloc, learning);
         self.version = text.query_version;
         self.guard = text.guard;
         self.times = times;
         self.links = links;
         self.addresses = addresses;
         Ok(())
+    }
+
+    // Has a listener with these settings: that which is there, with what it learned, or a new one.
+    fn listen(&mut self, alloc: Global, learning: Option<Learning>) {
+        match (&mut self.listener, learning) {
+            (Some(listener), Some(Learning { limit, ranges })) => {
+                listener.configure(limit as usize, ranges.into_vec());
+            }
+            (_, learning) => self.listener = new_listener(alloc, learning),
+        }
     }
 
     /// Puts rows of older hosts that were saved into the router's front, as if it were new: it keeps what it hears of them.
@@ -163,7 +192,8 @@ impl Station {
             | EventKind::Up { .. }
             | EventKind::Down { .. }
             | EventKind::Routes { .. }
-            | EventKind::Rps { .. } => false,
+            | EventKind::Rps { .. }
+            | EventKind::RpCandidates { .. } => false,
         }
     }
 
@@ -209,6 +239,7 @@ impl Station {
             EventKind::Down { iface } => EventKind::Down { iface },
             EventKind::Routes { routes } => EventKind::Routes { routes },
             EventKind::Rps { rps } => EventKind::Rps { rps },
+            EventKind::RpCandidates { candidates } => EventKind::RpCandidates { candidates },
         };
         Ok(Event { draw, kind })
     }
@@ -255,6 +286,15 @@ impl Station {
         BadSetsLine {
             number,
             router: self.name.as_str(),
+        }
+    }
+
+    /// A move by which a packet came that the router's listener heard.
+    pub fn heard_line(&self, number: usize, heard: Heard) -> HeardLine<'_> {
+        HeardLine {
+            number,
+            router: self.name.as_str(),
+            heard,
         }
     }
 
@@ -307,6 +347,16 @@ pub fn link_numbers(alloc: Global, links: &[Link]) -> Result<Series<u32>, AllocE
         numbers.push(u32::try_from(link.number).map_err(|_| AllocError)?)?;
     }
     Ok(numbers)
+}
+
+// A listener with these settings, if there are some, which has heard nothing.
+fn new_listener(alloc: Global, learning: Option<Learning>) -> Option<Listener>
+    ensures { result ≡ new_listener learning }
+{
+    match learning {
+        Some(learning) => Some(learning.listener(alloc)),
+        None => None,
+    }
 }
 
 // Nobody is known yet. The front has room for as many groups on interfaces as the router has for facts.

@@ -5,7 +5,7 @@ use Rattle.pim_types.{specs.declared.event.Event.Event}
 use Rattle.pim_model.{specs.{declared.accepted.Accepted.Accepted, Cause.{done_as, packet_in}, Network.{At, Move, Network, Sent, Station, event_of, frame_at, moved, network_ran, station_at}}}
 use Rattle.law_streams.{specs.{Copies.happens, Joins.join_packet, Served.renewed}, proofs.{Computed.{event_in, stand, stands_there}, Pairs.same_station}}
 use Rattle.pim_runs.{specs.{InTime.started, ServedChain.asked_group}, proofs.OnLiterals.machine_on_literals}
-use Rattle.law_converges.{specs.{AloneByAssert.{AreOfContest, BringsWhatIsLost, IsAboutIt}, AloneByAssertRun.{WinnerAloneOnPlan, heard, hears_it}, CarriedNetwork.{contest_on, layout_of}, CarriedNetworkRun.{before, bound, by_register, claim, farther_on_low, lag, low_lan, moves, none_came, plan, serving, settling, soon, source_sends, source_there, traffic}, LinkDr.Member, OneSender.is_about_packet, Past.{ArePast, HoldsPast}, Settles.{HasOneSender, HasSettled}}, proofs.{AloneByAssert.winner_is_alone, CarriedNetwork.carried_network_settles, CarriedNetworkRun.{nowhere, plan_is_quiet}, Tested.{past_so, past_test, same_event}}}
+use Rattle.law_converges.{specs.{AloneByAssert.{AreOfContest, BringsWhatIsLost, IsAboutIt}, AloneByAssertRun.{WinnerAloneOnPlan, heard, hears_it}, CarriedNetwork.{contest_on, layout_of}, CarriedNetworkRun.{before, bound, by_register, claim, farther_on_low, lag, low_lan, moves, none_came, plan, serving, until_then, soon, source_sends, source_there, traffic}, LinkDr.Member, OneSender.is_about_packet, Past.{ArePast, HoldsPast}, Settles.{HasOneSender, HasSettled}}, proofs.{AloneByAssert.winner_is_alone, CarriedNetwork.carried_network_settles, CarriedNetworkRun.{nowhere, plan_is_quiet}, Tested.{past_so, past_test, same_event}}}
 
 -- what holds past the bound by the last of some moves
 by_then : (limit : ℕ) (P : Network → Type 0) (m : Move) (xs ys : List Move) (n : Network) → HoldsPast started limit P n (m ∷ xs ++ ys)
@@ -25,10 +25,10 @@ ran_so (m ∷ ms) n a b = ran_so ms (moved n m).1 a b
 
 one_sender : HasOneSender heard (contest_on low_lan claim)
 one_sender =
-    subst (λ (x : Network). HasOneSender x (contest_on low_lan claim)) (ran_so settling before (At 1 source_sends) by_register)
+    subst (λ (x : Network). HasOneSender x (contest_on low_lan claim)) (ran_so until_then before (At 1 source_sends) by_register)
     (by_then bound (HasSettled (layout_of soon soon started traffic plan)) _ _ serving before
     (carried_network_settles soon soon lag bound started traffic none_came plan before moves plan_is_quiet)
-    (subst (ArePast started bound) (sym (ran_so settling before (At 1 source_sends) by_register)) (past_so started (λ q r. refl) bound heard heard_is_past))).contests.0
+    (subst (ArePast started bound) (sym (ran_so until_then before (At 1 source_sends) by_register)) (past_so started (λ q r. refl) bound heard heard_is_past))).contests.0
 
 abbrev links_at : ℕ → List ℕ
 links_at q = option_map_or (λ (z : Station). z.links) (station_at heard q) []
@@ -93,7 +93,7 @@ abbrev its_arrival : Event
 its_arrival = event_in heard hears_it
 
 abbrev its_packet : Packet
-its_packet = packet_of (option_map_or (λ (f : Sent). f.bytes) (frame_at heard 26) [])
+its_packet = packet_of (option_map_or (λ (f : Sent). f.bytes) (frame_at heard 56) [])
 
 arrival_is : event_of heard hears_it ≡ Some (1, its_arrival)
 unfolding machine_on_literals join_packet

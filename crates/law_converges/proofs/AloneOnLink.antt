@@ -1,10 +1,10 @@
 -- Why each router of a link but one sends none of a source's packets there, and so that nothing else comes down a way.
-use Rattle.std.{proofs.{Common.{◌≡◌, ◌∙◌, ℕ, ◌==◌, ◌<◌, ◌≤◌, ◌&&◌, ◌||◌, not, Bool, true, false, List, [], ◌∷◌, ◌++◌, map, ◌⊎◌, inl, inr, Option, Some, None, refl, sym, ap, subst, arith, eqb-true, eq-eqb}, lemmas.List.Elements.recursion_from_All}, specs.{List.{AllByRecursion, Contains, flat_map}, Prelude.{if◌then◌else◌, option_and_then, option_map, slice_get}}}
+use Rattle.std.{proofs.{Common.{Bool, List, None, Option, Some, [], ap, arith, eq-eqb, eqb-true, false, inl, inr, map, not, refl, subst, sym, true, ℕ, ◌&&◌, ◌++◌, ◌<◌, ◌==◌, ◌||◌, ◌∙◌, ◌∷◌, ◌≡◌, ◌≤◌, ◌⊎◌}, lemmas.List.Elements.recursion_from_All}, specs.{List.{AllByRecursion, Contains, flat_map}, Prelude.{if◌then◌else◌, option_and_then, option_map, slice_get}}}
 use Rattle.pim_ip.{specs.Ipv4.{Packet, copy_text}}
 use Rattle.pim_types.{specs.declared.event.Event.Event}
-use Rattle.pim_model.{specs.{declared.accepted.Accepted.Accepted, Cause.done_as, Neighbours.is_dr, Network.{At, Deliver, DeliverUnicast, Move, Network, Sent, Station, event_of, frame_at, frame_event, is_on_frame_link, moved, station_at, unicast_event}, Receivers.{local_receiver_include, local_receiver_star}, Sets.{assert_source, assert_star, is_winner, joins, joins_star, lost_assert, lost_assert_star, pim_include, pim_include_star, serves, serves_star}, Writing.on_link}}
-use Rattle.law_streams.{specs.{Copies.{IsLower, copies_at, happens}, Adjacent.Adjacent, InTimeJoins.{Always, IsBy, IsReady, Star, time_at}}, proofs.{Copies.{never_back, ttl_falls}, Links.each_contained, Pairs.{Steps, one_router, same_station}}}
-use Rattle.law_converges.{specs.{AloneByAssert.IsAboutIt, AloneOnLink.{AreMembers, ComesDownTheWay, ComesFromAbove, HasLostGroup, HasLostIt, HasNoHosts, IsMemberAt, IsSecond, IsUnjoined, Lost, LostGroup, MemberLinkBringsNothingElse, NoHosts, NotDr, OneRouterSends, OthersSendNone, OthersSendNoneOnWay, SendsNone, TakesOn, TakesThere}, Carried.{Arrivals, EachMove, Traffic}, CarriedNetwork.{LanIsQuiet, Claim, ClaimIsQuiet, HopOn, HopsAreQuiet, IsOneLan, IsQuietPlan, Lan, Plan, contest_on, layout_of, number_of}, CarriedWays.{forwarders, root_of}, ComesOnce.{AllCameDown, AreAlone, AreAlonePast, Forwarder, HoldsPastOn, IsAlone, IsFromAbove, IsOfSource, TakesFromAbove}, LinkDr.{IsDrOf, IsOne, Member, between, is_preferred}, LinkLosers.{HasLostAfter, HasLostTo}, MemberLinks.{IsOneClaim, IsOpenToMember, to_hosts}, Past.{ArePast, HoldsPast}, OneSender.IsOffTree, Settles.{Contest, ContestIsQuiet, HasOneSender, HasSettled, LinkHasSettled, LoserIsQuiet, routers}, SilentRouters.{IsOnlyWayIn, is_asked_on}}, proofs.{AloneByAssert.same_text, CarriedNetwork.{carried_network_settles, claim_quiet, one_lan}, CarriedWays.none_besides, ComesOnce.no_station, Inside.{IsFrom, copied_from}, LinkJoins.{first_of, too_late}, LinkLosers.loser_comes_to_stay, MemberLinks.{among, one_claim, one_link, passes_on, quiet}, OneSender.silenced, Past.{later_past, same_past}, Settles.one_of, SilentRouters.{frame_so, is_frame_on, only_way_in_is_taken, unasked_sends_none}}}
+use Rattle.pim_model.{specs.{Cause.done_as, Neighbours.is_dr, Network.{At, Deliver, DeliverUnicast, Move, Network, Sent, Station, event_of, frame_at, frame_event, is_on_frame_link, moved, station_at, unicast_event}, Receivers.{local_receiver_include, local_receiver_star}, Sets.{assert_source, assert_star, is_winner, joins, joins_star, lost_assert, lost_assert_star, pim_include, pim_include_star, serves, serves_star}, Writing.on_link, declared.accepted.Accepted.Accepted}}
+use Rattle.law_streams.{proofs.{Copies.{never_back, ttl_falls}, Links.each_contained, Pairs.{Steps, one_router, same_station}}, specs.{Adjacent.Adjacent, Copies.{IsLower, copies_at, happens}, InTimeJoins.{Always, IsBy, IsReady, Star, time_at}}}
+use Rattle.law_converges.{proofs.{AloneByAssert.same_text, CarriedNetwork.{carried_network_settles, claim_quiet, one_lan}, CarriedWays.{HopsStand, none_besides}, Inside.{IsFrom, copied_from}, LinkJoins.{first_of, too_late}, LinkLosers.loser_comes_to_stay, MemberLinks.{IsOpenTo, among, one_claim, one_link, passes_on, quiet}, OneSender.silenced, Past.{later_past, no_station, same_past}, RoutesToRp.early_so, Settles.one_of, SilentRouters.{frame_so, is_frame_on, only_way_in_is_taken, unasked_sends_none}}, specs.{AloneByAssert.IsAboutIt, AloneOnLink.{AreMembers, ComesDownTheWay, ComesFromAbove, HasLostGroup, HasLostIt, HasNoHosts, IsMemberAt, IsSecond, IsUnjoined, Lost, LostGroup, NoHosts, NotDr, OneRouterSends, OthersSendNone, OthersSendNoneOnWay, SendsNone, TakesOn, TakesThere}, Carried.{Arrivals, EachMove, Traffic}, CarriedNetwork.{Claim, ClaimIsQuiet, HopOn, IsOneLan, IsQuietPlan, Lan, LanIsQuiet, Plan, contest_on, layout_of, number_of}, CarriedWays.{forwarders, root_of}, ComesOnce.{AllCameDown, AreAlone, AreAlonePast, Forwarder, IsAlone, IsFromAbove, IsOfSource, TakesFromAbove}, LinkDr.{IsDrOf, IsOne, Member, between, is_preferred}, LinkLosers.{HasLostAfter, HasLostTo}, MemberLinks.{IsOneClaim, to_hosts}, OneSender.IsOffTree, Past.{ArePast, HoldsPast, HoldsPastOn}, Settles.{Contest, ContestIsQuiet, HasOneSender, HasSettled, LinkHasSettled, LoserIsQuiet, routers}, SilentRouters.{IsOnlyWayIn, is_asked_on}}}
 
 contradicts : (b : Bool) → b ≡ true → b ≡ false → ⊥
 contradicts b e f = cc (sym e ∙ f)
@@ -29,7 +29,7 @@ pub each_move_both : (P Q R : Network → Move → Type 0) → ((n : Network) (m
 each_move_both P Q R so [] n f g = tt
 each_move_both P Q R so (m ∷ ms) n f g = (so n m f.0 g.0, each_move_both P Q R so ms (moved n m).1 f.1 g.1)
 
-each_move_more : (P R : Network → Move → Type 0) → ((n : Network) (m : Move) → P n m → R n m) → (ms : List Move) (n : Network)
+pub each_move_more : (P R : Network → Move → Type 0) → ((n : Network) (m : Move) → P n m → R n m) → (ms : List Move) (n : Network)
     → EachMove P n ms → EachMove R n ms
 each_move_more P R so [] n f = tt
 each_move_more P R so (m ∷ ms) n f = (so n m f.0, each_move_more P R so ms (moved n m).1 f.1)
@@ -37,7 +37,7 @@ each_move_more P R so (m ∷ ms) n f = (so n m f.0, each_move_more P R so ms (mo
 -- ---- who is on a link stays
 
 module _ (link : ℕ) (members : List Member) where
-  members_then : (n : Network) (m : Move) → AreMembers link members n → AreMembers link members (moved n m).1
+  pub members_then : (n : Network) (m : Move) → AreMembers link members n → AreMembers link members (moved n m).1
   members_then n m f q j st at linked = go (station_at n q) refl
     where
       by : (old : Station) → station_at n q ≡ Some old → old.links ≡ st.links → IsMemberAt members q j
@@ -424,7 +424,7 @@ module _ (g src rp d late lag bound limit : ℕ) (started : ℕ → ℕ) (t : Tr
       alone_each g src d late lag bound limit started t came plan n ms q le early a is r
       (one_lan (λ (b : Lan). AreMembers (number_of b) (routers b.link) n) plan.lans a members is) others
 
-  on_way : (r : ℕ) (h : HopOn) (hs : List HopOn) → HopsAreQuiet (Star rp) g t plan.lans n ms r (h ∷ hs)
+  on_way : (r : ℕ) (h : HopOn) (hs : List HopOn) → HopsStand (Star rp) g limit started plan.lans n ms r (h ∷ hs)
       → EachMove (Past started limit (OthersSendNoneOnWay g src h hs)) n ms
       → EachMove (Past started limit (λ n m. AreAlone g src (root_of h hs) (number_of h.lan) (forwarders h hs) n m)) n ms
   on_way r h [] hops others = on_lan h.lan ((hops.1).among) (h.upper).router others
@@ -441,16 +441,19 @@ module _ (g src rp d late lag bound limit : ℕ) (started : ℕ → ℕ) (t : Tr
 
 module _ (g src rp d late lag bound limit : ℕ) (started : ℕ → ℕ) (t : Traffic) (came : Arrivals) (plan : Plan) (n : Network) (ms : List Move)
     (a : Lan) (x : Member) (h : HopOn) (hs : List HopOn) (q : IsQuietPlan d late lag bound started t came plan n ms)
-    (o : IsOpenToMember g src rp bound limit started t plan.lans n ms a x h hs)
+    (o : IsOpenTo g src rp bound limit started plan.lans n ms a x h hs)
     (members : AllByRecursion (λ (b : Lan). AreMembers (number_of b) (routers b.link) n) plan.lans) where
   not_past : ArePast started bound n → ⊥
   not_past past =
-      over (time_at started x.router (ready).station) ((o.way).early (ready).station (ready).there) (past x.router (ready).station (ready).there)
+      over (time_at started x.router (ready).station)
+      (early_so d bound started x n ready (((own).meet).greet x (among g d late lag bound started t came plan n ms a x q o.serves)) (ready).station
+      (ready).there) (past x.router (ready).station (ready).there)
     where
+      own : LanIsQuiet d late bound started t came n ms a
+      own = quiet g d late lag bound started t came plan n ms a x q o.serves
+
       ready : IsReady x.router n
-      ready =
-          ((quiet g d late lag bound started t came plan n ms a x q (o.way).serves).meet).ready x
-          (among g d late lag bound started t came plan n ms a x q (o.way).serves)
+      ready = ((own).meet).ready x (among g d late lag bound started t came plan n ms a x q o.serves)
 
       over : (k : ℕ) → k ≤ bound → bound < k → ⊥
       over k le lt = omega (arith, le, lt)
@@ -465,22 +468,19 @@ module _ (g src rp d late lag bound limit : ℕ) (started : ℕ → ℕ) (t : Tr
       (λ n m. Past started limit (λ n m. AreAlone g src (root_of h hs) (number_of h.lan) (forwarders h hs) n m) n m × Past started limit (ComesDownTheWay g src a x h hs) n m)
       (AreAlonePast g src started limit (root_of h hs) (number_of a) its_forwarders)
       (λ n m u v past. (
-        (subst (λ (r : ℕ). IsAlone g src r (number_of a) n m) (sym ((o.way).quiet).0) (u past), v.0 past),
+        (subst (λ (r : ℕ). IsAlone g src r (number_of a) n m) (sym (o.stand).0) (u past), v.0 past),
         takes_each g src n m its_forwarders (v.1 past).from_above,
       )) ms n
-      (on_lan g src rp d late lag bound limit started t came plan n ms q o.later not_past members a (((o.way).serves).among) x.router
+      (on_lan g src rp d late lag bound limit started t came plan n ms q o.later not_past members a (o.serves).among x.router
       (each_move_more (Past started limit (ComesDownTheWay g src a x h hs)) (Past started limit (OthersSendNone g src a x.router)) (λ n m c past. (c past).on_link) ms n f))
       (each_move_both (Past started limit (λ n m. AreAlone g src (root_of h hs) (number_of h.lan) (forwarders h hs) n m)) (Past started limit (ComesDownTheWay g src a x h hs))
       (λ n m. Past started limit (λ n m. AreAlone g src (root_of h hs) (number_of h.lan) (forwarders h hs) n m) n m × Past started limit (ComesDownTheWay g src a x h hs) n m)
       (λ n m u v. (u, v)) ms n
-      (on_way g src rp d late lag bound limit started t came plan n ms q o.later not_past members x.router h hs (o.way).quiet
+      (on_way g src rp d late lag bound limit started t came plan n ms q o.later not_past members x.router h hs o.stand
       (each_move_more (Past started limit (ComesDownTheWay g src a x h hs)) (Past started limit (OthersSendNoneOnWay g src h hs)) (λ n m c past. (c past).on_way) ms n f)) f)
 
-  nothing_else : EachMove (Past started limit (ComesDownTheWay g src a x h hs)) n ms
+  pub nothing_else : EachMove (Past started limit (ComesDownTheWay g src a x h hs)) n ms
       → HoldsPastOn started limit (AllCameDown g src (root_of h hs) (number_of a) its_forwarders) n ms
   nothing_else f =
-      none_besides g src rp d late bound limit started t came plan.lans n ms q.lans h hs (to_hosts a x h) x.router (o.way).addresses (o.way).quiet
-      refl refl o.held o.tree (passes_on g src rp d late lag bound limit started t came plan n ms a x h hs q o) (alone_past f)
-
-pub member_link_brings_nothing_else : MemberLinkBringsNothingElse
-member_link_brings_nothing_else = nothing_else
+      none_besides g src rp d late bound limit started t came plan.lans n ms q.lans h hs (to_hosts a x h) x.router o.addresses o.stand refl refl
+      o.held o.tree (passes_on g src rp d late lag bound limit started t came plan n ms a x h hs q o) (alone_past f)

@@ -1,9 +1,9 @@
 -- Where a link carries what is sent on it, each frame comes in time.
-use Rattle.std.{proofs.{Common.{◌≡◌, ◌∙◌, ℕ, zero, suc, ◌+◌, ◌<◌, ◌≤◌, ◌==◌, ◌&&◌, nat_lt, Bool, true, false, cond, List, [], ◌∷◌, length, ◌⊎◌, inl, inr, Some, refl, sym, ap, subst, arith, eqb-true, eq-eqb}, lemmas.Bool.Decides.nat_tests}, specs.{Cmp.{first_so, second_so}}}
+use Rattle.std.{proofs.{Common.{Bool, List, Some, [], ap, arith, cond, eq-eqb, eqb-true, false, inl, inr, length, nat_lt, refl, subst, sym, true, ℕ, ◌&&◌, ◌+◌, ◌<◌, ◌==◌, ◌∙◌, ◌∷◌, ◌≡◌, ◌≤◌, ◌⊎◌}, lemmas.Bool.Decides.nat_tests}, specs.Cmp.{first_so, second_so}}
 use Rattle.pim_types.{specs.declared.event.Event.Event}
 use Rattle.pim_model.{specs.Network.{At, Deliver, DeliverUnicast, Move, Network, Station, event_of, frame_at, moved, station_at}}
-use Rattle.law_streams.{specs.InTimeJoins.{IsBy, time_at}, proofs.Pairs.frame_stays}
-use Rattle.law_converges.{specs.{Carried.{AreSoon, Arrivals, Carries, ComesInTurn, IsCarried, IsFor, IsPrompt, IsSentBy, Traffic, arrived}, LinkDr.{IsOne, Member}}, proofs.LinkRptOrder.{Got, got_below, there_is}}
+use Rattle.law_streams.{proofs.Pairs.frame_stays, specs.InTimeJoins.{IsBy, time_at}}
+use Rattle.law_converges.{proofs.LinkRptOrder.{frames_grow, there_is}, specs.{Carried.{AreSoon, Arrivals, Carries, ComesInTurn, IsCarried, IsFor, IsPrompt, IsSentBy, Traffic, arrived}, LinkDr.{IsOne, Member}}}
 
 -- ---- what a move brings to an interface
 
@@ -138,17 +138,6 @@ pub record IsCarriedOn (d late : ℕ) (started : ℕ → ℕ) (t : Traffic) (cam
   pub since : (y : Member) → IsOne members y → first ≤ came y.router y.iface
   pub behind : (y : Member) → IsOne members y → came y.router y.iface ≤ length n.frames
 
-pub more_frames : (n : Network) (m : Move) → length n.frames ≤ length ((moved n m).1).frames
-unfolding frame_at
-more_frames n m = go (length n.frames) refl
-  where
-    go : (k : ℕ) → length n.frames ≡ k → length n.frames ≤ length ((moved n m).1).frames
-    go zero is = omega (arith, is)
-    go (suc k) is =
-        let last : Got n.frames k = got_below n.frames k (omega (arith, is)) in
-        subst (λ (j : ℕ). j ≤ length ((moved n m).1).frames) (sym is)
-        (there_is (moved n m).1 (suc k) last.frame (frame_stays n m (suc k) last.frame last.is))
-
 module _ (d late : ℕ) (started : ℕ → ℕ) (t : Traffic) (link : ℕ) (members : List Member) (first : ℕ) where
   pub carried_on : (came : Arrivals) (n : Network) (m : Move) (ms : List Move) → IsCarried d late started t came link members first n (m ∷ ms)
       → IsCarriedOn d late started t came link members first n m ms
@@ -186,12 +175,12 @@ module _ (d late : ℕ) (started : ℕ → ℕ) (t : Traffic) (link : ℕ) (memb
       then y among = go (brings came y m)
         where
           go : Brought y m ⊎ (arrived came m y.router y.iface ≡ came y.router y.iface) → arrived came m y.router y.iface ≤ length ((moved n m).1).frames
-          go (inr left) = equal _ (came y.router y.iface) _ left (le _ (length n.frames) _ (f.behind y among) (more_frames n m))
+          go (inr left) = equal _ (came y.router y.iface) _ left (le _ (length n.frames) _ (f.behind y among) (frames_grow n m))
           go (inl b) =
               let turn : ComesInTurn started t link y came b.number n = (f.carries).1 y b.number b.draw among b.is in
               equal _ b.number _
               (subst (λ (k : Move). arrived came k y.router y.iface ≡ b.number) (sym b.is) (came_here came y b.number b.draw))
-              (le _ (length n.frames) _ (there_is n b.number (turn.its).frame (turn.its).is) (more_frames n m))
+              (le _ (length n.frames) _ (there_is n b.number (turn.its).frame (turn.its).is) (frames_grow n m))
 
   module _ (came : Arrivals) (n : Network) (m : Move) (ms : List Move) (f : IsCarriedOn d late started t came link members first n m ms)
       (y : Member) (among : IsOne members y) (number : ℕ) (new : length n.frames < number) where

@@ -3,7 +3,7 @@ use Rattle.std.{proofs.{Common.{◌≡◌, ℕ, suc, ◌+◌, ◌*◌, ◌-◌, 
 use Rattle.pim_model.{specs.Network.{Move, Network}}
 use Rattle.law_settled.{proofs.ListLaws.{each_append, each_map, each_more}}
 use Rattle.law_streams.{specs.{Adjacent.most_late_hello, InTimeJoins.{IsJoin, IsReady, Join, most_late, most_late_shared}}}
-use Rattle.law_converges.{specs.{Carried.{Arrivals, Traffic}, CarriedLinks.pair_of, CarriedNetwork.{CarriedNetworkSettles, Claim, ClaimIsQuiet, HopOn, HopsAreQuiet, IsOneLan, JoinIsQuiet, JoinOver, Lan, LanIsQuiet, LoserIsQuiet, WayIsQuiet, WayOver, WishIsQuiet, contest_on, joining_on, layout_of, number_of, way_on}, CarriedPrunes.{Wish, wire_of}, JoinedWays.{AreHops, a_hop}, LinkDr.{IsOne, Member, between}, Settles.{ContestIsQuiet, JoiningIsQuiet, LinkIsQuiet, LoserIsQuiet as LoserIsQuietOn, WayIsQuiet as WayIsQuietOn, WireIsQuiet, routers}}, proofs.{CarriedJoins.joins_in_time, CarriedLinks.{ask_so, meet_so, yields_so}, CarriedPrunes.prunes_in_order, Settles.network_settles}}
+use Rattle.law_converges.{specs.{Carried.{Arrivals, Traffic}, CarriedLinks.pair_of, CarriedNetwork.{CarriedNetworkSettles, Claim, ClaimIsQuiet, HopOn, HopsAreQuiet, IsOneLan, JoinIsQuiet, JoinOver, Lan, LanIsQuiet, LoserIsQuiet, WayIsQuiet, WayOver, WishIsQuiet, contest_on, joining_on, layout_of, number_of, way_on}, CarriedPrunes.{Wish, wire_of}, JoinedWays.{AreHops, a_hop}, LinkDr.{IsOne, Member, between}, Settles.{ContestIsQuiet, JoiningIsQuiet, LinkIsQuiet, LoserIsQuiet as LoserIsQuietOn, WayIsQuiet as WayIsQuietOn, WireIsQuiet, routers}}, proofs.{CarriedJoins.in_time_throughout, CarriedLinks.{ask_so, meet_so, yields_so}, CarriedPrunes.prunes_in_order, Settles.network_settles}}
 
 fewer : (d : ℕ) → d < most_late_hello → d < most_late_shared
 fewer d e = omega (arith, e)
@@ -51,8 +51,9 @@ module _ (d late lag bound : ℕ) (started : ℕ → ℕ) (t : Traffic) (came : 
         lower_ready = ready j.lower (g.on).lower;
         upper_ready = ready j.upper (g.on).upper;
         there = g.there;
-        in_time = joins_in_time j.join j.group d late started t came (number_of a) there j.lower j.upper (g.on).lower (g.on).upper (g.on).apart
-            (fewer d few) g.addresses (fewer_still d few) n ms (ready j.upper (g.on).upper) f.carried g.there g.keeps;
+        in_time = in_time_throughout j.join j.group d late started t (number_of a) there (length n.frames) j.lower j.upper (g.on).lower (g.on).upper
+            (g.on).apart (fewer d few) g.addresses (fewer_still d few) n ms came refl (ready j.lower (g.on).lower) (ready j.upper (g.on).upper)
+            f.carried g.there g.keeps g.hears;
         wants = g.wants;
         station = g.station;
         is = g.is;
@@ -98,9 +99,9 @@ module _ (d late lag bound : ℕ) (started : ℕ → ℕ) (t : Traffic) (came : 
           upper_ready = (a.meet).ready h.upper ((f.1).on).upper;
           near = (f.1).near;
           there = (f.1).there;
-          in_time = joins_in_time x g d late started t came (number_of h.lan) (routers (h.lan).link) h.lower h.upper ((f.1).on).lower
-              ((f.1).on).upper ((f.1).on).apart (fewer d few) isg (fewer_still d few) n ms ((a.meet).ready h.upper ((f.1).on).upper) a.carried
-              (f.1).there (f.1).keeps;
+          in_time = in_time_throughout x g d late started t (number_of h.lan) (routers (h.lan).link) (length n.frames) h.lower h.upper
+              ((f.1).on).lower ((f.1).on).upper ((f.1).on).apart (fewer d few) isg (fewer_still d few) n ms came refl
+              ((a.meet).ready h.lower ((f.1).on).lower) ((a.meet).ready h.upper ((f.1).on).upper) a.carried (f.1).there (f.1).keeps (f.1).hears;
           unlost = (f.1).unlost;
         },
         hops_quiet x g lans isg quiet (h.upper).router hs f.2,

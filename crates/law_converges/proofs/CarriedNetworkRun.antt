@@ -3,7 +3,7 @@ use Rattle.std.{proofs.{Common.{◌≡◌, ℕ, zero, suc, ◌≤◌, ◌==◌, 
 use Rattle.pim_model.{specs.{Limits.config_test, Network.{Station, network_ran, station_at}, State.{opening}}}
 use Rattle.law_streams.{specs.{InTimeJoins.{IsJoin, IsReady}, Joins.join_packet}, proofs.Computed.{stand, stands_there}}
 use Rattle.pim_runs.{specs.{InTime.started, ServedChain.asked_group}, proofs.OnLiterals.machine_on_literals}
-use Rattle.law_converges.{specs.{Carried.{IsCarried, IsPrompt, IsSentBy}, CarriedLinks.JoinKeeps, CarriedNetwork.{ClaimIsQuiet, JoinIsQuiet, JoinOver, LanIsQuiet, WayIsQuiet, WishIsQuiet, joining_on, layout_of}, CarriedNetworkRun.{OverrideComesInOrder, PlanIsQuiet, PlanSettles, PruneHasNoEffect, before, bound, claim, farther_before, farther_config, farther_joins, farther_on_high, farther_on_low, high_lan, its_metric, its_wire, its_wish, lag, low_lan, moves, nearer_before, nearer_config, nearer_joins, nearer_on_high, nearer_on_low, none_came, plan, rp_before, rp_config, rp_on_high, soon, star, traffic, way}, LinkAsserts.IsSayable, LinkDr.{IsOne, Member, between}, LinkLosers.{needs_no_clearing, passes_throughout, survives, survives_instant, survives_timer}, LinkMembers.AnswersInTime, LinkRptOrder.{Begins, IsOverridable}, Settles.{HasSettled, Joining, routers}}, proofs.{CarriedNetwork.carried_network_settles, CarriedPrunes.prunes_in_order, CarriedTests.{carries_so, carries_test, each_move_so, move_test, prompt_so, prompt_test, sent_by_so, sent_by_test}, ClaimTests.{claim_test, due_so, due_test, off_tree, yields_so}, HelloTests.{both_of, single_so}, JoinTests.{due_of, first_due, first_test, first_wants, is_addressed, near_of, near_test, quiet_test, there_of, unlost_of, unlost_test, wants_of, writable_so}, KeepsTests.{ask_keeps, ask_keeps_so, join_keeps, join_keeps_so, meet_keeps, meet_keeps_so}, LinkRptOrder.overridden_prune_has_no_effect, QueryTests.{member_so, member_test}, Tested.{all_together, ends_past, past_so, past_test, ready_by, together_test}, WishTests.{all_known, all_kept, wants_state, wants_state_so, wish_test}}}
+use Rattle.law_converges.{specs.{Carried.{IsCarried, IsPrompt, IsSentBy}, CarriedLinks.{HearsJoins, JoinKeeps}, CarriedNetwork.{ClaimIsQuiet, JoinIsQuiet, JoinOver, LanIsQuiet, WayIsQuiet, WishIsQuiet, joining_on, layout_of}, CarriedNetworkRun.{OverrideComesInOrder, PlanIsQuiet, PlanSettles, PruneHasNoEffect, before, bound, claim, farther_before, farther_config, farther_joins, farther_on_high, farther_on_low, high_lan, its_metric, its_wire, its_wish, lag, low_lan, moves, nearer_before, nearer_config, nearer_joins, nearer_on_high, nearer_on_low, none_came, plan, rp_before, rp_config, rp_on_high, soon, star, traffic, way}, LinkAsserts.IsSayable, LinkDr.{IsOne, Member, between}, LinkLosers.{needs_no_clearing, passes_throughout, survives, survives_instant, survives_timer}, LinkMembers.AnswersInTime, LinkRptOrder.{Begins, IsOverridable}, Settles.{HasSettled, Joining, routers}}, proofs.{CarriedNetwork.carried_network_settles, CarriedPrunes.prunes_in_order, CarriedTests.{carries_so, carries_test, each_move_so, move_test, prompt_so, prompt_test, sent_by_so, sent_by_test}, ClaimTests.{claim_test, due_so, due_test, off_tree, yields_so}, HelloTests.{both_of, single_so}, JoinTests.{due_of, first_due, first_test, first_wants, is_addressed, near_of, near_test, quiet_test, there_of, unlost_of, unlost_test, wants_of, writable_so}, KeepsTests.{ask_keeps, ask_keeps_so, join_keeps, join_hears_so, join_keeps_so, meet_keeps, meet_keeps_so}, LinkRptOrder.overridden_prune_has_no_effect, QueryTests.{member_so, member_test}, Tested.{all_together, ends_past, past_so, past_test, ready_by, together_test}, WishTests.{all_known, all_kept, wants_state, wants_state_so, wish_test}}}
 
 abbrev pub nowhere : Station
 nowhere = record { links = []; state = opening rp_config }
@@ -197,6 +197,8 @@ join_quiet j lower upper apart addresses addressed quiet keeps =
       there = there_of soon bound started (on_high j) before moves quiet;
       keeps = each_move_so (join_keeps soon bound started traffic (on_high j)) (JoinKeeps j.join j.group traffic (on_high j).pair)
           (join_keeps_so soon bound started traffic (on_high j) (writable_so soon bound started (on_high j) addressed)) moves before keeps;
+      hears = each_move_so (join_keeps soon bound started traffic (on_high j)) (HearsJoins j.join j.group (on_high j).pair)
+          (join_hears_so soon bound started traffic (on_high j) (writable_so soon bound started (on_high j) addressed)) moves before keeps;
       wants = wants_of soon bound started (on_high j) before moves quiet;
       station = due.station;
       is = due.is;
@@ -295,6 +297,7 @@ way_quiet = record {
       near = near_of soon bound started (on_high nearer_joins) before near_passes;
       there = (nearer_joins_quiet).there;
       keeps = (nearer_joins_quiet).keeps;
+      hears = (nearer_joins_quiet).hears;
       unlost = unlost_of soon bound started (on_high nearer_joins) before moves unlost_passes;
     },
     tt,

@@ -1,9 +1,9 @@
 -- Where a link carries what is sent on it, Prunes(S,G,rpt) and the Joins that override them come in order.
-use Rattle.std.{proofs.{Common.{◌≡◌, ◌∙◌, ℕ, suc, zero, ◌+◌, ◌<◌, ◌≤◌, ◌==◌, nat_le, nat_lt, Bool, true, false, List, [], ◌∷◌, length, ◌⊎◌, inl, inr, Some, refl, sym, subst, arith}, lemmas.{Bool.Decides.nat_tests}}}
+use Rattle.std.{proofs.{Common.{Bool, List, Some, [], arith, false, inl, inr, length, nat_le, nat_lt, refl, subst, suc, sym, true, zero, ℕ, ◌+◌, ◌<◌, ◌==◌, ◌∙◌, ◌∷◌, ◌≡◌, ◌≤◌, ◌⊎◌}, lemmas.Bool.Decides.nat_tests}}
 use Rattle.pim_types.{specs.{Keys.rpt_key, declared.{event.Event.Event, fact.OverrideTimerRow.OverrideTimerRow}}}
 use Rattle.pim_model.{specs.{Cause.done_as, Network.{Deliver, Move, Network, Station, event_of, frame_at, moved, station_at}, Step.step, Tables.row_at}}
-use Rattle.law_streams.{specs.{Copies.happens, InTimeJoins.{Always, IsBy, time_at}}, proofs.{Pairs.{Steps, one_router, same_station}}}
-use Rattle.law_converges.{specs.{Carried.{AreSoon, Arrivals, ComesInTurn, EachMove, IsCarried, IsFor, Traffic, arrived}, CarriedPrunes.{AreKnown, Brings, SeesPrune, TakesJoin, TakesPrune, Wish, WishKeeps, wire_of}, LinkDr.{IsOne, Member}, LinkRpt.{is_pruned_by, sees_join}, LinkRptOrder.{AreInOrder, AreOnTime, Brings as AreBrought, GoesOn, IsInOrder, IsOverride, JoinComes, JoinIsSeen, PruneComes, PruneIsSeen, Wire}}, proofs.{Carried.{Brought, IsCarriedOn, brings, came_here, carried_on, soon_first}, JoinClock.step_later, LinkJoins.first_of, LinkRptOrder.{Got, got_below, there_before, there_is}, Prompt.override_end}}
+use Rattle.law_streams.{proofs.{Pairs.{Steps, one_router, same_station}, Shared.{Got, got_below, present_later, there_before}}, specs.{Copies.happens, InTimeJoins.{Always, IsBy, time_at}}}
+use Rattle.law_converges.{proofs.{Carried.{Brought, IsCarriedOn, brings, came_here, carried_on, soon_first}, LinkJoins.first_of, LinkRptOrder.there_is, Prompt.override_end}, specs.{Carried.{AreSoon, Arrivals, ComesInTurn, EachMove, IsCarried, IsFor, Traffic, arrived}, CarriedPrunes.{AreKnown, Brings, SeesPrune, TakesJoin, TakesPrune, Wish, WishKeeps, wire_of}, LinkDr.{IsOne, Member}, LinkRpt.{is_pruned_by, sees_join}, LinkRptOrder.{AreInOrder, AreOnTime, Brings as AreBrought, GoesOn, IsInOrder, IsOverride, JoinComes, JoinIsSeen, PruneComes, PruneIsSeen, Wire}}}
 
 -- ---- numbers
 
@@ -349,7 +349,7 @@ module _ (d late : ℕ) (started : ℕ → ℕ) (t : Traffic) (link : ℕ) (memb
         after (inr s) st at =
             subst (λ (z : Station). t.sent b.number ≤ time_at started low.router z) (same_station (s.stepped).here at)
             (more ((keeps.below).state).present ((step (keeps.below).state s.event).state).present (started low.router) (t.sent b.number)
-            (step_later (keeps.below).state s.event) start)
+            (present_later (keeps.below).state s.event) start)
 
         seen_join : w.prunes b.number ≡ false → w.joins b.number ≡ true → Low l
         seen_join off is = record {

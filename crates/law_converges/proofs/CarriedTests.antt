@@ -1,10 +1,10 @@
 -- Whether a link carries what is sent on it, in order and soon: tests, and that where they pass it does.
-use Rattle.std.{proofs.{Common.{◌≡◌, ℕ, zero, suc, ◌+◌, ◌<◌, ◌≤◌, ◌==◌, nat_le, nat_lt, not, ◌&&◌, ◌||◌, Bool, true, false, List, [], ◌∷◌, length, Option, Some, refl, sym, subst, arith, eqb-true, eq-eqb}, lemmas.Bool.Decides.nat_tests}, specs.{Cmp.{first_so, second_so}, List.{list_all}, Option.option_map_or}}
+use Rattle.std.{proofs.{Common.{Bool, List, Option, Some, [], arith, eq-eqb, eqb-true, false, length, nat_le, nat_lt, not, refl, subst, suc, sym, true, zero, ℕ, ◌&&◌, ◌+◌, ◌<◌, ◌==◌, ◌||◌, ◌∷◌, ◌≡◌, ◌≤◌}, lemmas.Bool.Decides.nat_tests}, specs.{Cmp.{first_so, second_so}, List.list_all, Option.option_map_or}}
 use Rattle.pim_types.{specs.declared.event.Event.Event}
 use Rattle.pim_model.{specs.{Network.{At, Deliver, DeliverUnicast, Move, Network, Sent, Station, event_of, frame_at, moved, station_at}, Tables.same_option, Timers.{Ending, timers}}}
 use Rattle.law_settled.{proofs.ListLaws.{each_more, each_of_list}}
-use Rattle.law_streams.{specs.InTimeJoins.{IsBy, time_at}}
-use Rattle.law_converges.{specs.{Carried.{AreSoon, Arrivals, Carries, ComesInTurn, EachMove, IsFor, IsPrompt, IsSentBy, Traffic, arrived}, LinkDr.{IsOne, Member}}, proofs.{HelloTests.one_of, LinkRptOrder.{Got, got_below}, Tested.{Found, after_so, by_so, each_after, each_found, each_passes, else_so, found, is_by, le_so, lt_so, moves_so, off_so, or_else, run_test, same_so, then}}}
+use Rattle.law_streams.{proofs.Shared.{Got, got_below}, specs.InTimeJoins.{IsBy, time_at}}
+use Rattle.law_converges.{proofs.{HelloTests.one_of, Tested.{Found, after_so, by_so, each_after, each_found, each_passes, else_so, found, is_by, le_so, lt_so, moves_so, off_so, or_else, run_test, same_so, then}}, specs.{Carried.{AreSoon, Arrivals, Carries, ComesInTurn, EachMove, IsFor, IsPrompt, IsSentBy, Traffic, arrived}, LinkDr.{IsOne, Member}}}
 
 -- a test of each move
 abbrev pub move_test : (Network → Move → Network → Bool) → Network → List Move → Bool

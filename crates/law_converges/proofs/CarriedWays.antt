@@ -1,10 +1,10 @@
 -- A way of a network that settles forwards the packets, from the bound on.
-use Rattle.std.{proofs.Common.{◌≡◌, ◌∙◌, ℕ, ◌==◌, Bool, true, false, List, [], ◌∷◌, map, inl, inr, Some, refl, sym, ap, subst, eqb-true, eq-eqb}, specs.{List.AllByRecursion, Prelude.slice_get}}
+use Rattle.std.{proofs.Common.{Bool, List, Some, [], ap, eq-eqb, eqb-true, false, inl, inr, map, refl, subst, sym, true, ℕ, ◌==◌, ◌∙◌, ◌∷◌, ◌≡◌, ◌≤◌}, specs.{List.AllByRecursion, Prelude.slice_get}}
 use Rattle.pim_types.{specs.Keys.star_key}
 use Rattle.pim_model.{specs.{Network.{Move, Network, Station, moved, station_at}, Tables.row_at}}
 use Rattle.law_events.{specs.Rest.IsAtRest}
-use Rattle.law_streams.{specs.{InTimeJoins.{AreThere, IsHeld, IsJoin, IsReady, Star}, Passing.{Receiver, Tree}}, proofs.Pairs.{ready_then, same_station}}
-use Rattle.law_converges.{specs.{Carried.{Arrivals, Carries, EachMove, Traffic}, CarriedNetwork.{HopIsQuiet, HopOn, HopsAreQuiet, IsQuietPlan, Lan, LanIsQuiet, Plan, WayIsQuiet, WayOver, layout_of, number_of, way_on}, CarriedWays.{AreOnTree, CarriedNetworkBringsNothingElse, CarriedNetworkServesOnce, IsClear, IsOneWay, IsOpen, forwarders, pair_on, root_of}, ComesOnce.{AllCameDown, AreAlonePast, AreForwarding, AreServedOnce, Forwarder, Forwards, HasOneOn, HearsAll, HoldsPastOn, SendsDown, sender_of}, LinkDr.{IsOne, Member}, Past.HoldsPast, PassedOnce.IsOnTree, Settles.{HasSettled, Way, routers}}, proofs.{CarriedNetwork.{carried_network_settles, one_lan}, ComesOnce.each_packet_comes_once, NothingElse.nothing_else_comes, PassedOnce.passes, Past.{both_past, same_past, throughout_past}}}
+use Rattle.law_streams.{proofs.Pairs.{ready_then, same_station}, specs.{InTimeJoins.{AreThere, IsHeld, IsJoin, IsReady, IsUnlost, Join, Star}, Passing.{Receiver, Tree}}}
+use Rattle.law_converges.{proofs.{CarriedNetwork.{carried_network_settles, one_lan}, ComesOnce.each_packet_comes_once, NothingElse.nothing_else_comes, PassedOnce.passes, Past.{both_past, later_past, same_past, throughout_past}}, specs.{Carried.{Arrivals, Carries, EachMove, Traffic}, CarriedNetwork.{AreOn, HopOn, HopsAreQuiet, IsOneLan, IsQuietPlan, Lan, LanIsQuiet, Plan, WayIsQuiet, WayOver, layout_of, number_of, way_on}, CarriedWays.{AreOnTree, CarriedNetworkBringsNothingElse, CarriedNetworkServesOnce, IsClear, IsOneWay, IsOpen, forwarders, pair_on, root_of}, ComesOnce.{AllCameDown, AreAlonePast, AreForwarding, AreServedOnce, Forwarder, Forwards, HasOneOn, HearsAll, SendsDown, sender_of}, LinkDr.{IsOne, Member}, PassedOnce.IsOnTree, Past.{HoldsPast, HoldsPastOn}, Settles.{HasSettled, Way, routers}}}
 
 -- ---- lists
 
@@ -79,7 +79,50 @@ module _ (g src rp : ℕ) (h : HopOn) (n : Network) (ready : IsReady (h.upper).r
       below = subst (HasOneOn (h.upper).iface (number_of h.lan)) (same_station clear.there tree.there) clear.one;
     }
 
--- ---- from the bound on
+-- ---- from a limit on
+
+-- two routers of a LAN, of which one joins over the other from then on, and no assert is lost where the Joins come
+pub record HopStands (x : Join) (g limit : ℕ) (started : ℕ → ℕ) (lans : List Lan) (n : Network) (ms : List Move) (h : HopOn) : Type 0 where
+  pub among : IsOneLan lans h.lan
+  pub on : AreOn h.lan h.lower h.upper
+  pub there : HoldsPast started limit (AreThere x g (pair_on h)) n ms
+  pub unlost : HoldsPast started limit (IsUnlost x g (pair_on h)) n ms
+
+-- so it is with each next hop
+abbrev pub HopsStand : Join → (g limit : ℕ) → (ℕ → ℕ) → List Lan → Network → List Move → ℕ → List HopOn → Type 0
+HopsStand x g limit started lans n ms r [] = Unit {0}
+HopsStand x g limit started lans n ms r (h ∷ hs) =
+    ((h.lower).router ≡ r) × HopStands x g limit started lans n ms h × HopsStand x g limit started lans n ms (h.upper).router hs
+
+-- with those that are quiet throughout
+stand_throughout : (x : Join) (g limit : ℕ) (started : ℕ → ℕ) (t : Traffic) (lans : List Lan) (n : Network) (ms : List Move) (r : ℕ) (hs : List HopOn)
+    → HopsAreQuiet x g t lans n ms r hs → HopsStand x g limit started lans n ms r hs
+stand_throughout x g limit started t lans n ms r [] f = tt
+stand_throughout x g limit started t lans n ms r (h ∷ hs) f = (
+  f.0,
+  record {
+    among = (f.1).among;
+    on = (f.1).on;
+    there = throughout_past started limit (AreThere x g (pair_on h)) ms n (f.1).there;
+    unlost = throughout_past started limit (IsUnlost x g (pair_on h)) ms n (f.1).unlost;
+  },
+  stand_throughout x g limit started t lans n ms (h.upper).router hs f.2,
+)
+
+-- and from a later limit on
+pub stand_later : (x : Join) (g sooner limit : ℕ) (started : ℕ → ℕ) (lans : List Lan) (n : Network) (ms : List Move) → sooner ≤ limit → (r : ℕ)
+    (hs : List HopOn) → HopsStand x g sooner started lans n ms r hs → HopsStand x g limit started lans n ms r hs
+stand_later x g sooner limit started lans n ms le r [] f = tt
+stand_later x g sooner limit started lans n ms le r (h ∷ hs) f = (
+  f.0,
+  record {
+    among = (f.1).among;
+    on = (f.1).on;
+    there = later_past started limit sooner le (AreThere x g (pair_on h)) ms n (f.1).there;
+    unlost = later_past started limit sooner le (IsUnlost x g (pair_on h)) ms n (f.1).unlost;
+  },
+  stand_later x g sooner limit started lans n ms le (h.upper).router hs f.2,
+)
 
 -- a router stays ready
 pub ready_past : (started : ℕ → ℕ) (bound r : ℕ) (ms : List Move) (n : Network) → IsReady r n → HoldsPast started bound (IsReady r) n ms
@@ -89,10 +132,10 @@ ready_past started bound r (m ∷ ms) n f = (λ past. ready_then r n m f, ready_
 module _ (g src rp d late bound limit : ℕ) (started : ℕ → ℕ) (t : Traffic) (came : Arrivals) (lans : List Lan) (n : Network) (ms : List Move)
     (quiet : AllByRecursion (LanIsQuiet d late bound started t came n ms) lans) where
   abbrev Quiet : HopOn → Type 0
-  Quiet h = HopIsQuiet (Star rp) g t lans n ms h
+  Quiet h = HopStands (Star rp) g limit started lans n ms h
 
   abbrev Rest : HopOn → List HopOn → Type 0
-  Rest h hs = HopsAreQuiet (Star rp) g t lans n ms (h.upper).router hs
+  Rest h hs = HopsStand (Star rp) g limit started lans n ms (h.upper).router hs
 
   abbrev PastIt : (Network → Type 0) → Type 0
   PastIt P = HoldsPast started limit P n ms
@@ -148,7 +191,7 @@ module _ (g src rp d late bound limit : ℕ) (started : ℕ → ℕ) (t : Traffi
       (λ x a b. (a, b)) (upper_ready h q) held)
       (both (AreThere (Star rp) g (pair_on k)) (λ x. IsOnTree g src (k.lower).iface (pair_on h) x × IsClear g src (pair_on h) x)
       (λ x. AreThere (Star rp) g (pair_on k) x × (IsOnTree g src (k.lower).iface (pair_on h) x × IsClear g src (pair_on h) x)) (λ x a b. (a, b))
-      (throughout_past started limit (AreThere (Star rp) g (pair_on k)) ms n above.there) tree)
+      above.there tree)
 
   pub way_past : (h : HopOn) (hs : List HopOn) → Quiet h → Rest h hs → PastIt (AreHeldOn (h ∷ hs)) → PastIt (AreOnTree g src h hs)
       → PastIt (AreForwarding g src (root_of h hs) (number_of h.lan) (forwarders h hs))
@@ -195,7 +238,7 @@ module _ (g src rp d late bound limit : ℕ) (started : ℕ → ℕ) (t : Traffi
   -- ---- from when the next hops hold the group
 
   module _ (h : HopOn) (hs : List HopOn) (f : Forwarder) (r : ℕ) (isg : IsJoin (Star rp) g)
-      (hops : HopsAreQuiet (Star rp) g t lans n ms r (h ∷ hs)) (self : f.self ≡ h.lower) (above : f.above ≡ number_of h.lan)
+      (hops : HopsStand (Star rp) g limit started lans n ms r (h ∷ hs)) (self : f.self ≡ h.lower) (above : f.above ≡ number_of h.lan)
       (held : HoldsPast started limit (λ x. AllByRecursion (λ c. IsHeld (Star rp) g c x) (map pair_on (h ∷ hs))) n ms)
       (tree : HoldsPast started limit (AreOnTree g src h hs) n ms) (passes : HoldsPast started limit (Forwards g src f) n ms) where
     apart : (sender_of (root_of h hs) (forwarders h hs) == (f.self).router) ≡ false
@@ -228,6 +271,9 @@ module _ (g src rp d late lag bound first : ℕ) (started : ℕ → ℕ) (t : Tr
   way : WayIsQuiet d lag bound started t plan.lans n ms its_way
   way = one_way (WayIsQuiet d lag bound started t plan.lans n ms) plan.ways its_way q.ways o.among
 
+  stand : HopsStand (Star rp) g bound started plan.lans n ms first (h ∷ hs)
+  stand = stand_throughout (Star rp) g bound started t plan.lans n ms first (h ∷ hs) (way).hops
+
   held : HoldsPast started bound (λ x. AllByRecursion (λ c. IsHeld (Star rp) g c x) (map pair_on (h ∷ hs))) n ms
   held =
       same_past started bound (HasSettled (layout_of d late started t plan)) (λ x. AllByRecursion (λ c. IsHeld (Star rp) g c x) (map pair_on (h ∷ hs)))
@@ -236,13 +282,13 @@ module _ (g src rp d late lag bound first : ℕ) (started : ℕ → ℕ) (t : Tr
 
   once : HoldsPastOn started bound (AreServedOnce g src d started t (root_of h hs) f.below (f ∷ forwarders h hs)) n ms
   once =
-      served_once g src rp d late bound bound started t came plan.lans n ms q.lans h hs f first (way).addresses (way).hops o.self o.above held o.tree
+      served_once g src rp d late bound bound started t came plan.lans n ms q.lans h hs f first (way).addresses stand o.self o.above held o.tree
       o.passes
 
   nothing_else : EachMove (AreAlonePast g src started bound (root_of h hs) f.below (f ∷ forwarders h hs)) n ms
       → HoldsPastOn started bound (AllCameDown g src (root_of h hs) f.below (f ∷ forwarders h hs)) n ms
   nothing_else alone =
-      none_besides g src rp d late bound bound started t came plan.lans n ms q.lans h hs f first (way).addresses (way).hops o.self o.above held
+      none_besides g src rp d late bound bound started t came plan.lans n ms q.lans h hs f first (way).addresses stand o.self o.above held
       o.tree o.passes alone
 
 pub carried_network_serves_once : CarriedNetworkServesOnce

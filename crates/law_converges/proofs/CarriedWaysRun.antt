@@ -5,7 +5,7 @@ use Rattle.pim_types.{specs.declared.event.{Event.Event, EventKind.EventKind}}
 use Rattle.pim_model.{specs.{Network.{At, Move, Network, Sent, Station, event_of, frame_at, moved, network_ran, station_at}}}
 use Rattle.law_streams.{specs.{InTimeJoins.{IsReady, time_at}, Joins.join_packet, Roots.{IsBrought, IsRegister}}, proofs.{Computed.{stand, stands_there}, StreamRoots.each_register_is_brought}}
 use Rattle.pim_runs.{specs.{Base.rp, InTime.started, ServedChain.{asked_group, content}}, proofs.OnLiterals.machine_on_literals}
-use Rattle.law_converges.{specs.{Carried.EachMove, CarriedNetworkRun.{before, bound, by_register, lag, moves, none_came, plan, serving, settling, soon, source_sends, source_there, traffic}, CarriedWays.{AreOnTree, IsClear, pair_on, root_of}, CarriedWaysRun.{PlanBringsNothingElse, PlanIsOpen, PlanServesOnce, its_hop, sent_again, to_host}, ComesOnce.{AreAlonePast, AreServedOnce, ComesOnce, Forwards, HoldsPastOn, IsServedOnce}, Past.{ArePast, HoldsPast}}, proofs.{CarriedNetworkRun.{nearer_ready, nowhere, plan_is_quiet}, CarriedTests.{each_move_so, move_test}, CarriedWays.{carried_network_brings_nothing_else, carried_network_serves_once, ready_past}, Past.both_past, Tested.{past_so, past_test}, WayTests.{alone_so, alone_test, clear_at, clear_so, forwards_at, forwards_so, past_run, past_run_so, takes_so, takes_test}}}
+use Rattle.law_converges.{specs.{Carried.EachMove, CarriedNetworkRun.{before, bound, by_register, lag, moves, none_came, plan, serving, until_then, soon, source_sends, source_there, traffic}, CarriedWays.{AreOnTree, IsClear, pair_on, root_of}, CarriedWaysRun.{PlanBringsNothingElse, PlanIsOpen, PlanServesOnce, its_hop, sent_again, to_host}, ComesOnce.{AreAlonePast, AreServedOnce, ComesOnce, Forwards, IsServedOnce}, Past.{ArePast, HoldsPast, HoldsPastOn}}, proofs.{CarriedNetworkRun.{nearer_ready, nowhere, plan_is_quiet}, CarriedTests.{each_move_so, move_test}, CarriedWays.{carried_network_brings_nothing_else, carried_network_serves_once, ready_past}, Past.both_past, Tested.{past_so, past_test}, WayTests.{alone_so, alone_test, clear_at, clear_so, forwards_at, forwards_so, past_run, past_run_so, takes_so, takes_test}}}
 
 -- ---- the tests
 
@@ -101,7 +101,7 @@ on_after limit P m [] ys n f past = f.0 past
 on_after limit P m (x ∷ xs) ys n f past = on_after limit P x xs ys (moved n m).1 f.1 past
 
 -- the last of the moves before it
-settled_is_past : past_test started (λ q r. refl) bound (network_ran before settling).1 ≡ true
+settled_is_past : past_test started (λ q r. refl) bound (network_ran before until_then).1 ≡ true
 unfolding machine_on_literals join_packet
 settled_is_past = refl
 
@@ -109,11 +109,11 @@ once : IsServedOnce asked_group source_there soon started traffic (root_of its_h
 once =
     (on_after bound (AreServedOnce asked_group source_there soon started traffic (root_of its_hop []) 1 (to_host ∷ [])) _ _
     (At 1 source_sends ∷ by_register ∷ serving) before served
-    (past_so started (λ q r. refl) bound (network_ran before settling).1 settled_is_past)).1.0
+    (past_so started (λ q r. refl) bound (network_ran before until_then).1 settled_is_past)).1.0
 
 -- the Register
 abbrev its_bytes : List ℕ
-its_bytes = option_map_or (λ (f : Sent). f.bytes) (frame_at sent_again 25) []
+its_bytes = option_map_or (λ (f : Sent). f.bytes) (frame_at sent_again 55) []
 
 abbrev its_event : Event
 its_event = record { draw = 7; kind = EventKind.Unicast its_bytes }
@@ -154,11 +154,11 @@ brought : IsBrought (rp_before).state its_event asked_group source_there 0 conte
 unfolding machine_on_literals join_packet
 brought = each_register_is_brought (rp_before).state asked_group rp source_there 7 0 14 its_bytes content far refl refl refl refl is_register
 
-its_time : time_at started 2 rp_after + 1 * soon ≡ 281551
+its_time : time_at started 2 rp_after + 1 * soon ≡ 402451
 unfolding machine_on_literals join_packet
 its_time = refl
 
-end_passes : past_test started (λ q r. refl) 281551 (network_ran (moved sent_again by_register).1 serving).1 ≡ true
+end_passes : past_test started (λ q r. refl) 402451 (network_ran (moved sent_again by_register).1 serving).1 ≡ true
 unfolding machine_on_literals join_packet
 end_passes = refl
 
@@ -176,4 +176,4 @@ plan_serves_once =
     its_time
     ((once).served its_event rp_before rp_after content 13 is_event before_there after_there (lit≤ tt) brought
     (subst (λ (by : ℕ). ArePast started by (network_ran (moved sent_again by_register).1 serving).1) (sym its_time)
-    (past_so started (λ q r. refl) 281551 (network_ran (moved sent_again by_register).1 serving).1 end_passes)))
+    (past_so started (λ q r. refl) 402451 (network_ran (moved sent_again by_register).1 serving).1 end_passes)))

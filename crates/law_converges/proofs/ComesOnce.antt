@@ -1,11 +1,11 @@
 -- Down a way of any length: what each router of it takes, and makes of it, once.
-use Rattle.std.{proofs.{Common.{◌≡◌, ◌∙◌, ℕ, suc, ◌+◌, ◌*◌, ◌<◌, ◌≤◌, ◌==◌, Bool, true, false, cond, List, [], ◌∷◌, length, ◌⊎◌, inl, inr, Option, Some, None, Ok, refl, sym, ap, subst, arith, eq-eqb, eqb-true}}, specs.{List.{AllByRecursion}, Option.option_map_or, Prelude.{option_and_then}}}
+use Rattle.std.{proofs.Common.{List, None, Ok, Option, Some, [], ap, arith, cond, eq-eqb, false, inl, inr, length, refl, subst, suc, sym, true, ℕ, ◌*◌, ◌+◌, ◌<◌, ◌==◌, ◌∙◌, ◌∷◌, ◌≡◌, ◌≤◌, ◌⊎◌}, specs.{List.AllByRecursion, Prelude.option_and_then}}
 use Rattle.pim_ip.{specs.{Ipv4.{Packet, copy_text, frame_limit, ipv4_reading, is_link_local, is_multicast, protocol_igmp}, View.copied}}
-use Rattle.pim_types.{specs.declared.{event.{Event.Event, EventKind.EventKind}}}
-use Rattle.pim_model.{specs.{declared.accepted.Accepted.Accepted, Cause.{done_as, packet_in}, Network.{Deliver, Move, bad_move, moved_at, stepped, Network, Sent, Station, event_of, frame_at, frame_event, is_on_frame_link, moved, network_ran, station_at}, State.{State, is_own}, Tables.has_row, Step.{Answered, change, done, step}, Writing.on_link}}
+use Rattle.pim_types.{specs.declared.event.{Event.Event, EventKind.EventKind}}
+use Rattle.pim_model.{specs.{Cause.{done_as, packet_in}, Network.{Deliver, Move, Network, Sent, Station, event_of, frame_at, frame_event, is_on_frame_link, moved, network_ran, station_at}, State.{State, is_own}, Step.{Answered, change, done, step}, Tables.has_row, Writing.on_link, declared.accepted.Accepted.Accepted}}
 use Rattle.law_settled.{proofs.{ListLaws.each_more, Unsettled.{Unsettled, settling_leaves}}}
-use Rattle.law_streams.{specs.{Copies.happens, InTimeJoins.{Always, IsBy, time_at}, Passing.{Passes}, Roots.{ArrivesFor, InRegister, IsBrought, OnTree}, Served.IsServed, StreamRoots.Sends}, proofs.{Climbing.frames_stay, Deliveries.{IsNewOn, IsStepped, is_delivered, is_stepped}, EndSoon.change_present, Forwards.{copy_fits, copy_reads_lower, data_done, from_copies}, Leaves.taken_is_done, Made.step_taken, Pairs.{Steps, frame_stays, one_router, same_station}, Room.has_room, Roots.leaves_root, Serving.passing_serves}}
-use Rattle.law_converges.{specs.{Carried.{Arrivals, Carries, ComesInTurn, EachMove, IsFor, IsSentBy, Traffic, arrived}, ComesOnce.{AreForwarding, AreServedOnce, ComesOf, ComesOnce, EachPacketComesOnce, Forwarder, Forwards, HasOneOn, HearsAll, HoldsPastOn, IsCopied, IsPassedOn, Root, SendsDown, SomeMove, sender_of}, LinkDr.{IsOne, Member}, Past.{ArePast, HoldsPast}}, proofs.{Carried.{Brought, brings, came_here, comes, more_frames, soon_first}, JoinClock.step_later, LinkRptOrder.there_is, OneCopy.one_copy, TakesOver.moved_so}}
+use Rattle.law_streams.{proofs.{Climbing.frames_stay, Deliveries.{IsNewOn, IsStepped, is_delivered, is_stepped}, EndSoon.change_present, Forwards.{copy_fits, copy_reads_lower, data_done, from_copies}, Leaves.taken_is_done, Made.step_taken, Pairs.{frame_stays, same_station}, Room.has_room, Roots.leaves_root, Serving.passing_serves}, specs.{Copies.happens, InTimeJoins.{Always, IsBy, time_at}, Passing.Passes, Roots.{ArrivesFor, InRegister, IsBrought, OnTree}, Served.IsServed, StreamRoots.Sends}}
+use Rattle.law_converges.{proofs.{Carried.{Brought, brings, came_here, comes, soon_first}, LinkDr.always_more, LinkJoins.first_of, LinkRptOrder.{frames_grow, there_is}, OneCopy.one_copy, Past.from_then_on, TakesOver.moved_so}, specs.{Carried.{Arrivals, Carries, ComesInTurn, EachMove, IsFor, IsSentBy, Traffic, arrived}, ComesOnce.{AreForwarding, AreServedOnce, ComesOf, ComesOnce, EachPacketComesOnce, Forwarder, Forwards, HasOneOn, HearsAll, IsCopied, IsPassedOn, Root, SendsDown, SomeMove, sender_of}, LinkDr.{IsOne, Member}, Past.{ArePast, HoldsPast, HoldsPastOn}}}
 
 -- ---- a data packet takes no time
 
@@ -124,14 +124,6 @@ unfolding network_ran
 last_of P [] n f = f
 last_of P (m ∷ ms) n f = last_of P ms (moved n m).1 f.1
 
-pub always_more : (P Q : Network → Type 0) → ((n : Network) → P n → Q n) → (ms : List Move) (n : Network) → Always P n ms → Always Q n ms
-always_more P Q so [] n f = so n f
-always_more P Q so (m ∷ ms) n f = (so n f.0, always_more P Q so ms (moved n m).1 f.1)
-
-first_of : (P : Network → Type 0) (n : Network) (ms : List Move) → Always P n ms → P n
-first_of P n [] f = f
-first_of P n (m ∷ ms) f = f.0
-
 lt_le : (a b : ℕ) → a < b → a ≤ b
 lt_le a b lt = omega (arith, lt)
 
@@ -163,7 +155,7 @@ module _ (d : ℕ) (started : ℕ → ℕ) (t : Traffic) (link : ℕ) (members :
             (there_is n b.number (turn.its).frame (turn.its).is)
 
     behind_then : arrived came m y.router y.iface ≤ length ((moved n m).1).frames
-    behind_then = le_le _ _ _ came_before (more_frames n m)
+    behind_then = le_le _ _ _ came_before (frames_grow n m)
 
   -- what has come doesn't come again
   module _ (f : Forwarder) (its : f.self ≡ y) (k copy : ℕ) where
@@ -678,60 +670,6 @@ module _ (g src d : ℕ) (started : ℕ → ℕ) (t : Traffic) (root : Root) (is
       its = refl;
       soon = (last).soon;
     }
-
--- ---- no router comes in by a move
-
-pub no_station : (n : Network) (m : Move) (r : ℕ) (st : Station) → station_at n r ≡ None → station_at (moved n m).1 r ≡ Some st → ⊥
-unfolding moved moved_at
-no_station n m r st none at = go (event_of n m) at
-  where
-    gone : (x : Network) → station_at x r ≡ station_at n r → station_at x r ≡ Some st → ⊥
-    gone x same is = contradicts (sym none ∙ (sym same ∙ is))
-      where
-        contradicts : (let o : Option Station = None in o) ≡ Some st → ⊥
-        contradicts e = cc e
-
-    stepped_there : (q : ℕ) (e : Event) (o : Option Station) → station_at n q ≡ o
-        → station_at (option_map_or (stepped n q e) o (bad_move, n)).1 r ≡ Some st → ⊥
-    stepped_there q e None is h = gone n refl h
-    stepped_there q e (Some old) is h = beside (q == r) refl
-      where
-        beside : (b : Bool) → (q == r) ≡ b → ⊥
-        beside false off = gone (stepped n q e old).1 ((is_stepped n q old e is).beside r off) h
-        beside true same = contradicts (sym none ∙ (ap (λ (z : ℕ). station_at n z) (sym (eqb-true q r same)) ∙ is))
-          where
-            contradicts : (let o : Option Station = None in o) ≡ Some old → ⊥
-            contradicts e = cc e
-
-    go : (o : Option (ℕ × Event)) → station_at (option_map_or (moved_at n) o (bad_move, n)).1 r ≡ Some st → ⊥
-    go None h = gone n refl h
-    go (Some e) h = stepped_there e.0 e.1 (station_at n e.0) refl h
-
--- ---- from a bound on
-
-module _ (started : ℕ → ℕ) (bound : ℕ) where
-  pub past_then : (n : Network) (m : Move) → ArePast started bound n → ArePast started bound (moved n m).1
-  past_then n m past r st at = go (station_at n r) refl
-    where
-      further : (a b c : ℕ) → a ≤ b → bound < a + c → bound < b + c
-      further a b c e lt = omega (arith, e, lt)
-
-      go : (o : Option Station) → station_at n r ≡ o → bound < time_at started r st
-      go None none = absurd (no_station n m r st none at)
-      go (Some old) is = by (one_router n m r old is)
-        where
-          by : (station_at (moved n m).1 r ≡ Some old) ⊎ Steps n m r old → bound < time_at started r st
-          by (inl same) = subst (λ (z : Station). bound < time_at started r z) (same_station same at) (past r old is)
-          by (inr s) =
-              subst (λ (z : Station). bound < time_at started r z) (same_station (s.stepped).here at)
-              (further (old.state).present ((step old.state s.event).state).present (started r) (step_later old.state s.event) (past r old is))
-
-  -- what holds past the bound holds from then on always
-  pub from_then_on : (P : Network → Type 0) (ms : List Move) (n : Network) → ArePast started bound n → P n → HoldsPast started bound P n ms
-      → Always P n ms
-  from_then_on P [] n past p f = p
-  from_then_on P (m ∷ ms) n past p f =
-      (p, from_then_on P ms (moved n m).1 (past_then n m past) (f.0 (past_then n m past)) f.1)
 
 pub each_packet_comes_once : EachPacketComesOnce
 each_packet_comes_once g src d bound started t came root link fs n ms is_group far = go ms n came

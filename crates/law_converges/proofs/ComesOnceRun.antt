@@ -4,7 +4,7 @@ use Rattle.pim_ip.{specs.Ipv4.{is_link_local, is_multicast, packet_of}}
 use Rattle.pim_model.{specs.{Network.{Move, Network, Station, event_of, moved, network_ran, station_at}}}
 use Rattle.law_streams.{specs.{InTimeJoins.{IsReady, time_at}, Joins.join_packet, Roots.{IsBrought, IsRegister}}, proofs.{Computed.{stand, stands_there}, Pairs.ready_then, StreamRoots.each_register_is_brought}}
 use Rattle.pim_runs.{specs.{InTime.started, ServedChain.{asked_group, content, register, root, sender, sent_packet}, Words.unicast}, proofs.OnLiterals.machine_on_literals}
-use Rattle.law_converges.{specs.{Carried.{EachMove, IsSentBy}, ComesOnce.{AreForwarding, AreServedOnce, ComesOnce, Forwards, HearsAll, HoldsPastOn, SendsDown}, ComesOnceRun.{ChainForwards, ChainServesOnce, all_came, all_joined, at_rp, coming_down, first_move, first_on_low, its_register, joined_by, second_on_high, so_far, soon, to_first, to_host, traffic}, JoinedWaysRun.{joining, unjoined}, Past.{ArePast, HoldsPast}}, proofs.{CarriedNetworkRun.nowhere, CarriedTests.{carries_so, carries_test, each_move_so, move_test, sent_by_so, sent_by_test}, CarriedWays.ready_past, ComesOnce.each_packet_comes_once, JoinedWaysRun.{first_ready, second_ready, third_ready}, Past.both_past, Tested.{past_so, past_test}, WayTests.{forwards_at, forwards_so, past_run, past_run_so, sends_at, sends_so}}}
+use Rattle.law_converges.{specs.{Carried.{EachMove, IsSentBy}, ComesOnce.{AreForwarding, AreServedOnce, ComesOnce, Forwards, HearsAll, SendsDown}, ComesOnceRun.{ChainForwards, ChainServesOnce, all_came, all_joined, at_rp, coming_down, first_move, first_on_low, its_register, joined_by, second_on_high, so_far, soon, to_first, to_host, traffic}, JoinedWaysRun.{joining, unjoined}, Past.{ArePast, HoldsPast, HoldsPastOn}}, proofs.{CarriedNetworkRun.nowhere, CarriedTests.{carries_so, carries_test, each_move_so, move_test, sent_by_so, sent_by_test}, CarriedWays.ready_past, ComesOnce.each_packet_comes_once, JoinedWaysRun.{first_ready, second_ready, third_ready}, Past.both_past, Tested.{past_so, past_test}, WayTests.{forwards_at, forwards_so, past_run, past_run_so, sends_at, sends_so}}}
 
 abbrev all_moves : List Move
 all_moves = first_move ∷ its_register ∷ coming_down

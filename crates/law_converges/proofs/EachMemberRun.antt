@@ -1,9 +1,10 @@
--- The premises are those of the members' links and of the routes.
-use Rattle.std.{proofs.Common.{◌≡◌, List, [], inl, inr, lit≤, refl, true}, specs.List.AllByRecursion}
+-- The premises are those of the members' links and of the routes, and that no Assert comes, and no Prune of the source.
+use Rattle.std.{proofs.Common.{Bool, List, [], arith, inl, inr, lit≤, refl, suc, true, zero, ℕ, ◌&&◌, ◌<◌, ◌≡◌}, specs.Cmp.{first_so, second_so}}
+use Rattle.pim_types.{specs.Keys.{source_key, star_key}}
 use Rattle.pim_model.{specs.Network.{Move, Network}}
 use Rattle.law_streams.{specs.Joins.join_packet}
-use Rattle.pim_runs.{specs.{Base.rp, InTime.started, ServedChain.asked_group}, proofs.OnLiterals.machine_on_literals}
-use Rattle.law_converges.{specs.{CarriedNetwork.{HopOn, IsOneLan, Lan}, CarriedNetworkRun.{before, bound, far_source, lag, low_lan, moves, nearer_on_low, none_came, plan, soon, star, traffic}, CarriedWays.AreOnTree, CarriedWaysRun.its_hop, EachMemberRun.{BothAreReached, BothAreServed}, MemberLinksRun.{farther_on_own, other_hop, own_lan, served_plan}, Past.HoldsPast, RoutedWays.{AreFree, IsFree}, RoutesToRp.{AreNeighbours, RoutesLead}, RoutesToRpRun.routing}, proofs.{EachMember.each_member_is_served, MemberLinksRun.{both_are_open, served_plan_is_quiet}, Past.same_past, RouteTests.{neighbours_so, neighbours_test}, RoutesToRpRun.{nearer_wants, routes_lead_on_plan}}}
+use Rattle.pim_runs.{proofs.OnLiterals.machine_on_literals, specs.{Base.rp, InTime.started, ServedChain.asked_group}}
+use Rattle.law_converges.{proofs.{AloneOnLink.each_move_more, EachMember.each_member_is_served, MemberLinksRun.{are_unheard, keys_of, low_serves, no_others_send, own_serves, own_unheard, served_plan_is_quiet}, MemberTests.{heard_none, included_at, included_so, tree_at, tree_so}, RoutesToRpRun.{none_there, routes_lead_on_plan}, WayTests.{past_run, past_run_so}}, specs.{AloneOnLink.ComesDownTheWay, Carried.EachMove, CarriedNetwork.{IsOneLan, Lan}, CarriedNetworkRun.{before, bound, claim, far_source, farther_on_high, farther_on_low, high_lan, lag, limit, low_lan, moves, nearer_on_high, nearer_on_low, none_came, plan, rp_on_high, soon, star, traffic}, CarriedWaysRun.its_hop, EachMember.{HopIsFree, IsIncluded, NoneBeaten, TakesOnTree}, EachMemberRun.{BothAreReached, BothAreServed, NothingElseComesToBoth}, LinkDr.Member, MemberLinks.{Undisputed, Winner}, MemberLinksRun.{farther_on_own, other_hop, own_lan, served_plan}, Past.{ArePast, HoldsPast}, RoutesToRp.RoutesLead, RoutesToRpRun.routing, Unheard.HearsNone}}
 
 -- ---- one link more
 
@@ -28,56 +29,126 @@ lead_over n ms f = record {
   };
 }
 
-own_neighbours : neighbours_test soon started before own_lan ≡ true
+beaten_of : (n : Network) (ms : List Move) → HearsNone (star_key 1 asked_group) bound started 0 n ms
+    → HearsNone (star_key 1 asked_group) bound started 1 n ms → HearsNone (star_key 0 asked_group) bound started 2 n ms
+    → NoneBeaten asked_group bound started routing n ms
+beaten_of n ms f g h zero k e = (Undisputed f, Undisputed h)
+beaten_of n ms f g h (suc zero) k e = (Undisputed g, Undisputed h)
+beaten_of n ms f g h (suc (suc zero)) k e = none_there k e
+beaten_of n ms f g h (suc (suc (suc r))) k e = cc e
+
+none_beaten : NoneBeaten asked_group bound started routing before moves
+none_beaten =
+    beaten_of before moves
+    (heard_none bound started 0 (keys_of 0) before moves (are_unheard).nearer (star_key 1 asked_group) (inl refl) (lit≤ tt))
+    (heard_none bound started 1 (keys_of 1) before moves (are_unheard).farther (star_key 1 asked_group) (inl refl) (lit≤ tt))
+    (heard_none bound started 2 (keys_of 2) before moves (are_unheard).at_rp (star_key 0 asked_group) (inl refl) (lit≤ tt))
+
+-- ---- past the limit
+
+abbrev takes_at : Member → Network → Bool
+takes_at c n = tree_at asked_group far_source c n
+
+abbrev serves_at : Member → Network → Bool
+serves_at c n = included_at asked_group far_source c n
+
+abbrev both_take : Network → Bool
+both_take n = takes_at nearer_on_high n && takes_at farther_on_high n
+
+abbrev both_serve : Network → Bool
+both_serve n = serves_at nearer_on_low n && serves_at farther_on_own n
+
+abbrev is_open : Network → Bool
+is_open n = both_take n && both_serve n
+
+open_passes : past_run started limit 2 is_open before moves ≡ true
 unfolding machine_on_literals join_packet
-own_neighbours = refl
+open_passes = refl
 
-neighbours : AllByRecursion (AreNeighbours soon started before) served_plan.lans
-neighbours =
-    let two = (routes_lead_on_plan).0 in (two.0, (two.1.0, (neighbours_so soon started before own_lan own_neighbours, tt)))
+open_past : (P : Network → Type 0) → ((n : Network) → is_open n ≡ true → P n) → HoldsPast started limit P before moves
+open_past P so = past_run_so started limit 2 is_open P so moves before open_passes
 
-free_past : (h : HopOn) → HoldsPast started bound (AreOnTree asked_group far_source h []) before moves
-    → HoldsPast started bound (AreFree asked_group far_source h []) before moves
-free_past h tree =
-    same_past started bound (AreOnTree asked_group far_source h []) (IsFree asked_group far_source h)
-    (λ x c. record { station = c.station; there = c.there; unlost = c.source; unpruned = c.unpruned; single = (c.one).single }) moves before tree
+-- each part of it
+they_take : (c : Member) → ((n : Network) → both_take n ≡ true → takes_at c n ≡ true)
+    → HoldsPast started limit (TakesOnTree asked_group far_source c) before moves
+they_take c part =
+    open_past (TakesOnTree asked_group far_source c)
+    (λ n e. tree_so asked_group far_source c n (part n (first_so (both_take n) (both_serve n) e)))
+
+they_serve : (c : Member) → ((n : Network) → both_serve n ≡ true → serves_at c n ≡ true)
+    → HoldsPast started limit (IsIncluded asked_group far_source c) before moves
+they_serve c part =
+    open_past (IsIncluded asked_group far_source c)
+    (λ n e. included_so asked_group far_source c n (part n (second_so (both_take n) (both_serve n) e)))
+
+hop_free : (c : Member) → HoldsPast started limit (TakesOnTree asked_group far_source c) before moves
+    → HopIsFree asked_group far_source bound limit started before moves (record { lan = high_lan; lower = c; upper = rp_on_high })
+hop_free c takes = record {
+  takes = takes;
+  unheard = heard_none bound started 2 (keys_of 2) before moves (are_unheard).at_rp (source_key 0 asked_group far_source) (inr (inl refl)) (lit≤ tt);
+  unpruned = (are_unheard).pruned;
+}
 
 -- ---- both are served
 
 pub both_are_reached : BothAreReached
 both_are_reached = (
+  none_beaten,
   record {
-    serves = (((both_are_open).0).way).serves;
-    unlost = (((both_are_open).0).way).unlost;
-    early = (((both_are_open).0).way).early;
+    serves = low_serves;
     distance = refl;
     next_hops = refl;
-    apart = refl;
-    later = lit≤ tt;
-    soon = inl nearer_wants;
-    reaches = ((both_are_open).0).reaches;
-    free = free_past its_hop ((both_are_open).0).tree;
+    apart = (refl, tt);
+    by = lit≤ tt;
+    unbeaten = Winner claim farther_on_low (inl refl) refl refl refl (inl refl);
+    unheard = heard_none bound started 0 (keys_of 0) before moves (are_unheard).nearer (source_key 0 asked_group far_source) (inr (inl refl)) (lit≤ tt);
+    included = they_serve nearer_on_low (λ n e. first_so (serves_at nearer_on_low n) (serves_at farther_on_own n) e);
+    free = (
+      hop_free nearer_on_high
+          (they_take nearer_on_high (λ n e. first_so (takes_at nearer_on_high n) (takes_at farther_on_high n) e)),
+      tt,
+    );
   },
   record {
-    serves = (((both_are_open).1).way).serves;
-    unlost = (((both_are_open).1).way).unlost;
-    early = (((both_are_open).1).way).early;
+    serves = own_serves;
     distance = refl;
     next_hops = refl;
-    apart = refl;
-    later = lit≤ tt;
-    soon = inl (routes_lead_on_plan).3;
-    reaches = ((both_are_open).1).reaches;
-    free = free_past other_hop ((both_are_open).1).tree;
+    apart = (refl, tt);
+    by = lit≤ tt;
+    unbeaten = Undisputed own_unheard;
+    unheard = heard_none bound started 1 (keys_of 1) before moves (are_unheard).farther (source_key 2 asked_group far_source) (inr (inr (inl refl)))
+        (lit≤ tt);
+    included = they_serve farther_on_own (λ n e. second_so (serves_at nearer_on_low n) (serves_at farther_on_own n) e);
+    free = (
+      hop_free farther_on_high
+          (they_take farther_on_high (λ n e. second_so (takes_at nearer_on_high n) (takes_at farther_on_high n) e)),
+      tt,
+    );
   },
 )
 
 pub both_are_served : BothAreServed
 both_are_served = (
-  each_member_is_served asked_group far_source rp soon soon lag bound bound 1 started traffic none_came served_plan routing before moves low_lan
-      nearer_on_low its_hop [] served_plan_is_quiet neighbours (lead_over before moves (routes_lead_on_plan).1) (routes_lead_on_plan).2
-      (both_are_reached).0,
-  each_member_is_served asked_group far_source rp soon soon lag bound bound 1 started traffic none_came served_plan routing before moves own_lan
-      farther_on_own other_hop [] served_plan_is_quiet neighbours (lead_over before moves (routes_lead_on_plan).1) (routes_lead_on_plan).2
-      (both_are_reached).1,
+  each_member_is_served asked_group far_source rp soon soon lag bound limit 1 started traffic none_came served_plan routing before moves low_lan
+      nearer_on_low its_hop [] served_plan_is_quiet (no_others_send).0 (lead_over before moves (routes_lead_on_plan).0) none_beaten
+      (routes_lead_on_plan).2 (both_are_reached).1,
+  each_member_is_served asked_group far_source rp soon soon lag bound limit 1 started traffic none_came served_plan routing before moves own_lan
+      farther_on_own other_hop [] served_plan_is_quiet (no_others_send).0 (lead_over before moves (routes_lead_on_plan).0) none_beaten
+      (routes_lead_on_plan).2 (both_are_reached).2,
+)
+
+-- what is so past the bound is so past the limit
+sooner : (P : Network → Move → Type 0) → EachMove (λ n m. ArePast started bound n → P n m) before moves
+    → EachMove (λ n m. ArePast started limit n → P n m) before moves
+sooner P f =
+    each_move_more (λ n m. ArePast started bound n → P n m) (λ n m. ArePast started limit n → P n m)
+    (λ n m h past. h (λ r st at. raised (past r st at))) moves before f
+  where
+    raised : {i : ℕ} → limit < i → bound < i
+    raised e = omega (arith, e)
+
+pub nothing_else_comes_to_both : NothingElseComesToBoth
+nothing_else_comes_to_both = (
+  ((both_are_served).0).only (sooner (ComesDownTheWay asked_group far_source low_lan nearer_on_low its_hop []) (no_others_send).1),
+  ((both_are_served).1).only (sooner (ComesDownTheWay asked_group far_source own_lan farther_on_own other_hop []) (no_others_send).2),
 )

@@ -1,12 +1,12 @@
 -- Whether the routers of a link hear what comes, and nothing ends that sooner, as CarriedNetworkSettles asks: tests, and that where
 -- they pass it is so.
-use Rattle.std.{proofs.{Common.{◌≡◌, ◌∙◌, ℕ, zero, suc, ◌+◌, ◌*◌, ◌<◌, ◌==◌, ◌^◌, nat_lt, not, ◌&&◌, Bool, true, false, List, [], ◌∷◌, length, Option, Some, refl, sym, ap, subst, arith, eqb-true, eq-eqb}, lemmas.{Bool.Decides.nat_tests}}, specs.{Cmp.{first_so, second_so}, List.list_all, Option.option_map_or}}
-use Rattle.byteorder.{specs.Numbers.big_number-reads_back}
+use Rattle.std.{proofs.{Common.{Bool, List, Option, Some, [], ap, arith, eq-eqb, eqb-true, false, inl, inr, length, nat_lt, not, refl, subst, suc, sym, true, zero, ℕ, ◌&&◌, ◌*◌, ◌+◌, ◌<◌, ◌==◌, ◌^◌, ◌||◌, ◌∙◌, ◌∷◌, ◌≡◌}, lemmas.Bool.Decides.nat_tests}, specs.{Cmp.{first_so, second_so}, List.{list_all, list_any}, Option.option_map_or}}
 use Rattle.pim_ip.{specs.{Checksum.with_checksum, Ipv4.{header_text, is_unicast, pim_packet_text, source_address_of}}}
 use Rattle.pim_types.{specs.declared.{config.Settings.Settings, event.Event.Event}}
-use Rattle.pim_model.{specs.{declared.accepted.Accepted.Accepted, Cause.done_as, Full.is_full, Neighbours.is_neighbour, Network.{At, Deliver, DeliverUnicast, Move, Network, Sent, Station, event_of, frame_at, moved, station_at}, State.{State, iface_count, is_own, is_up}, Tables.{same_option}}}
-use Rattle.law_streams.{specs.{Adjacent.{Adjacent, begins_or_ends}, Copies.happens, InTimeJoins.{IsReady, Join, Pair, entry_of, frame_of, is_suppressed, prunes_it, prunes_of}, Joins.{Hears, IsWritable, join_packet, join_value}, Shared.frame_from}, proofs.Computed.prunes_nothing}
-use Rattle.law_converges.{specs.{Carried.{EachMove, Traffic}, CarriedLinks.{Ask, HearsHello, HearsQuery, HelloKeeps, JoinKeeps, Meet, QueryKeeps, SeesJoin}, LinkDr.{AreOfMembers, IsOne, Member, Stands, between}, LinkQuerier.{Asks, KeepsLead, interval_of, takes_lead}, Settles.Joining}, proofs.{HelloTests.{alone_by, alone_then, apart_so, apart_test, forgets_so, forgets_test, greets_first, greets_at, greets_so, greets_test, hears_hello, known_lasts, one_of, shortens_known, stands_so, stands_test}, JoinTests.{is_join, join_is_join, join_is_pim}, QueryTests.{asks_so, asks_test, cuts_held, hears_query, held_lasts, leads_so, leads_test}, Tested.{Found, after_so, always_so, each_after, each_found, else_so, found, happens_not, is_of_protocol, le_so, lt_so, moves_so, not_so, of_protocol, off_so, or_else, run_test, same_so, then, told_so, told_test}}}
+use Rattle.byteorder.{specs.Numbers.big_number-reads_back}
+use Rattle.pim_model.{specs.{Cause.done_as, Full.is_full, Neighbours.is_neighbour, Network.{At, Deliver, DeliverUnicast, Move, Network, Sent, Station, event_of, frame_at, moved, station_at}, State.{State, iface_count, is_own, is_up}, Tables.same_option, declared.accepted.Accepted.Accepted}}
+use Rattle.law_streams.{proofs.Computed.prunes_nothing, specs.{Adjacent.{Adjacent, begins_or_ends}, Copies.happens, InTimeJoins.{IsReady, Join, Pair, entry_of, frame_of, is_suppressed, prunes_it, prunes_of}, Joins.{Hears, IsWritable, join_packet, join_value}, Shared.frame_from}}
+use Rattle.law_converges.{proofs.{HelloTests.{alone_by, alone_then, apart_so, apart_test, forgets_so, forgets_test, greets_at, greets_first, greets_so, greets_test, hears_hello, known_lasts, one_of, shortens_known, stands_so, stands_test}, JoinTests.{is_join, join_is_join, join_is_pim}, QueryTests.{asks_so, asks_test, cuts_held, hears_query, held_lasts, leads_so, leads_test}, Tested.{Found, after_so, always_so, each_after, each_found, else_so, found, happens_not, is_of_protocol, le_so, lt_so, moves_so, not_so, of_protocol, off_so, or_else, run_test, same_so, then, told_so, told_test}}, specs.{Carried.{EachMove, Traffic}, CarriedLinks.{Ask, HearsHello, HearsJoins, HearsQuery, HelloKeeps, JoinKeeps, Meet, QueryKeeps, SeesJoin}, LinkDr.{AreOfMembers, IsOne, Member, Stands, between}, LinkQuerier.{Asks, KeepsLead, interval_of, takes_lead}, RoutesToRp.{IsAnother, JoinIsOfLan}, Settles.Joining}}
 
 -- ---- a delivery
 
@@ -299,20 +299,25 @@ module _ (d bound : ℕ) (started : ℕ → ℕ) where
             record_so : (f : Sent) (l : Option ℕ) (bs : List ℕ) → f.link ≡ l → f.bytes ≡ bs → f ≡ record { link = l; bytes = bs }
             record_so f l bs a b = λ y. record { link = a y; bytes = b y }
 
+    abbrev taken_keeps : Network → Move → Bool
+    taken_keeps n m = delivery_test c.upper c.down (λ k draw. takes_frame n k) m
+
+    abbrev others_keep : Network → Move → Network → Bool
+    others_keep n m next =
+        each_after 0 (λ k f. or_else (not (joins_there f)) (λ u. not (t.by k == c.upper))) next.frames
+        && (happens_not c.upper (λ s a. prunes_it x g c.down a) n m && when_test c.lower (λ s a. is_suppressed x s g c.hop a) (shows n m) n m)
+
+    abbrev told_keeps : Network → Move → Network → Bool
+    told_keeps n m next = told_test c.lower c.link 103 (λ st k f. or_else (not (is_join f)) (λ u. length f.bytes == 54)) n m next
+
     abbrev pub join_keeps : Network → Move → Network → Bool
-    join_keeps n m next =
-        told_test c.lower c.link 103 (λ st k f. or_else (not (is_join f)) (λ u. length f.bytes == 54)) n m next
-        && (delivery_test c.upper c.down (λ k draw. takes_frame n k) m
-        && (each_after 0 (λ k f. or_else (not (joins_there f)) (λ u. not (t.by k == c.upper))) next.frames
-        && (happens_not c.upper (λ s a. prunes_it x g c.down a) n m && when_test c.lower (λ s a. is_suppressed x s g c.hop a) (shows n m) n m)))
+    join_keeps n m next = told_keeps n m next && (taken_keeps n m && others_keep n m next)
 
     module _ (w : IsWritable c.from (c.hop).address.bits g (entry_of x) (prunes_of [])) where
       pub join_keeps_so : (n : Network) (m : Move) → join_keeps n m (moved n m).1 ≡ true → JoinKeeps x g t c n m
       join_keeps_so n m e =
           then e (λ told e. then e (λ taken e. then e (λ others e. then e (λ unpruned shared. record {
             writable = λ e st number pruned ev at new got. own told e st number pruned ev at new got;
-            hears = λ number draw from pruned st host is framed at.
-                heard st from (source_read from host x g c pruned) (first_so _ _ (second_so _ _ (taken_so n m taken number draw from pruned st is framed at)));
             room = λ number draw from pruned st is framed at.
                 fits st from pruned (first_so _ _ (taken_so n m taken number draw from pruned st is framed at))
                 (second_so _ _ (second_so _ _ (taken_so n m taken number draw from pruned st is framed at)));
@@ -324,11 +329,6 @@ module _ (d bound : ℕ) (started : ℕ → ℕ) where
             shared = λ e st ev at is. shows_so w n m (when_so c.lower (λ s a. is_suppressed x s g c.hop a) (shows n m) n m shared e st ev at is);
           }))))
         where
-          heard : (st : Station) (from : ℕ) {read : ℕ} → read ≡ from → hears_from st read ≡ true → Hears st.state c.down from
-          heard st from same e =
-              then (subst (λ (a : ℕ). hears_from st a ≡ true) same e) (λ configured e. then e (λ up e. then e (λ neighbour other.
-              record { configured = lt_so _ _ configured; up = up; neighbour = neighbour; other = off_so _ other })))
-
           fits : (st : Station) (from : ℕ) (pruned : List ℕ) → (length (frame_from x g c from pruned).bytes == 54) ≡ true → has_room st ≡ true
               → is_full st.state (Accepted.JoinPruneToMe (record { number = c.down })
               (join_value (c.hop).address.bits g (entry_of x) (prunes_of pruned))) ≡ false
@@ -348,3 +348,67 @@ module _ (d bound : ℕ) (started : ℕ → ℕ) where
               (else_so (is_join (frame_of x g c pruned)) (λ u. length (frame_of x g c pruned).bytes == 54)
               (told_so c.lower c.link 103 (λ st k f. or_else (not (is_join f)) (λ u. length f.bytes == 54)) n m (moved n m).1 told e st number
               (frame_of x g c pruned).bytes ev at new got (join_is_pim x g c pruned)) (join_is_join x g c pruned))))) w
+
+      pub join_hears_so : (n : Network) (m : Move) → join_keeps n m (moved n m).1 ≡ true → HearsJoins x g c n m
+      join_hears_so n m e = record {
+        hears = λ number draw from pruned st host is framed at.
+            heard st from (source_read from host x g c pruned)
+            (first_so _ _ (second_so _ _ (taken_so n m taken number draw from pruned st is framed at)));
+      }
+        where
+          taken : taken_keeps n m ≡ true
+          taken =
+              first_so (taken_keeps n m) (others_keep n m (moved n m).1)
+              (second_so (told_keeps n m (moved n m).1) (taken_keeps n m && others_keep n m (moved n m).1) e)
+
+          heard : (st : Station) (from : ℕ) {read : ℕ} → read ≡ from → hears_from st read ≡ true → Hears st.state c.down from
+          heard st from same e =
+              then (subst (λ (a : ℕ). hears_from st a ≡ true) same e) (λ configured e. then e (λ up e. then e (λ neighbour other.
+              record { configured = lt_so _ _ configured; up = up; neighbour = neighbour; other = off_so _ other })))
+
+    -- whoever's Join comes to the upper one is another router of the LAN
+    module _ (members : List Member) where
+      abbrev is_other : ℕ → Member → Bool
+      is_other from y = (y.address == from) && not (y.router == c.upper)
+
+      abbrev of_lan : Network → ℕ → Bool
+      of_lan n from =
+          list_any (is_other from) members && option_map_or (λ (st : Station). not (is_own st.state from)) (station_at n c.upper) true
+
+      abbrev joiner_is : Network → ℕ → Bool
+      joiner_is n k =
+          option_map_or (λ (f : Sent). or_else (not (joins_there f)) (λ u. of_lan n (source_address_of f.bytes))) (frame_at n k) true
+
+      abbrev pub joiners_test : Network → Move → Network → Bool
+      joiners_test n m next = delivery_test c.upper c.down (λ k draw. joiner_is n k) m
+
+      another_so : (from : ℕ) (ys : List Member) → list_any (is_other from) ys ≡ true → IsAnother ys c.upper from
+      another_so from [] e = cc e
+      another_so from (y ∷ ys) e = go (is_other from y) refl e (another_so from ys)
+        where
+          further : IsAnother ys c.upper from → IsAnother (y ∷ ys) c.upper from
+          further f = record { member = f.member; among = inr f.among; its = f.its; apart = f.apart }
+
+          go : (b : Bool) → is_other from y ≡ b → (b || list_any (is_other from) ys) ≡ true
+              → (list_any (is_other from) ys ≡ true → IsAnother ys c.upper from) → IsAnother (y ∷ ys) c.upper from
+          go true is e later =
+              then is (λ its apart. record { member = y; among = inl refl; its = eqb-true y.address from its; apart = off_so _ apart })
+          go false is e later = further (later e)
+
+      pub joiners_so : (n : Network) (m : Move) → joiners_test n m (moved n m).1 ≡ true → JoinIsOfLan x g members c n m
+      joiners_so n m e = record {
+        joiner = λ number draw from pruned st host is framed at.
+            then (its number draw from pruned host is framed) (λ among foreign. (
+              another_so from members among,
+              off_so _ (each_found (λ (st : Station). not (is_own st.state from)) (station_at n c.upper) st foreign at),
+            ));
+      }
+        where
+          its : (number draw from : ℕ) (pruned : List ℕ) → is_unicast from ≡ true → m ≡ Deliver c.upper c.down number draw
+              → frame_at n number ≡ Some (frame_from x g c from pruned) → of_lan n from ≡ true
+          its number draw from pruned host is framed =
+              subst (λ (a : ℕ). of_lan n a ≡ true) (source_read from host x g c pruned)
+              (else_so (joins_there (frame_from x g c from pruned)) (λ u. of_lan n (source_address_of (frame_from x g c from pruned).bytes))
+              (each_found (λ (f : Sent). or_else (not (joins_there f)) (λ u. of_lan n (source_address_of f.bytes))) (frame_at n number)
+              (frame_from x g c from pruned) (delivered_so c.upper c.down (λ k draw. joiner_is n k) m e number draw is) framed)
+              (passes_there from pruned))

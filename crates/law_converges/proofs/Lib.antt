@@ -48,6 +48,7 @@ pub mod CarriedWays
 pub mod AloneByAssert
 pub mod Inside
 pub mod SilentRouters
+pub mod Unheard
 pub mod MemberLinks
 pub mod AloneOnLink
 pub mod RoutesToRp

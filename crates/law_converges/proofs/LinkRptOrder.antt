@@ -1,13 +1,13 @@
 -- No Prune(S,G,rpt) that is overridden in order takes effect: while it waits, the answer is due at the lower router, or is on
 -- its way, and comes sooner.
-use Rattle.std.{proofs.{Common.{◌≡◌, ◌∙◌, ℕ, zero, suc, ◌+◌, ◌*◌, ◌<◌, ◌≤◌, ◌==◌, ◌&&◌, max, nat_le, nat_lt, Bool, true, false, List, [], ◌∷◌, length, ◌⊎◌, inl, inr, Option, Some, None, Ok, is_none, refl, sym, ap, subst, arith, eq-eqb}, lemmas.{Bool.{both_ways, Decides.nat_tests}, List.Elements.All-nil}}, specs.{List.Contains, Option.option_map_or, Prelude.slice_get}}
-use Rattle.pim_types.{specs.{Keys.rpt_key, declared.{config.IfaceId.IfaceId, event.{Event.Event, EventKind.EventKind}, fact.{DownstreamRow.DownstreamRow}}}, proofs.Keys.same_key_same}
+use Rattle.std.{proofs.{Common.{Bool, List, None, Ok, Option, Some, [], ap, arith, eq-eqb, false, inl, inr, is_none, length, max, nat_le, nat_lt, refl, subst, sym, true, ℕ, ◌&&◌, ◌*◌, ◌+◌, ◌<◌, ◌==◌, ◌∙◌, ◌∷◌, ◌≡◌, ◌≤◌, ◌⊎◌}, lemmas.{Bool.{Decides.nat_tests, both_ways}, List.Elements.All-nil}}, specs.{List.Contains, Option.option_map_or}}
+use Rattle.pim_types.{proofs.Keys.same_key_same, specs.{Keys.rpt_key, declared.{config.IfaceId.IfaceId, event.{Event.Event, EventKind.EventKind}, fact.DownstreamRow.DownstreamRow}}}
 use Rattle.pim_wire.{specs.{Values.JoinPrune, declared.join_prune.EntryKind.EntryKind}}
-use Rattle.pim_model.{specs.{declared.accepted.Accepted.Accepted, Cause.done_as, Downstream.{accepted_joins, holdtime_end, accepted_prunes, is_accepted, is_named, joined_keys, pruned_keys}, Judging.judged, Messages.entry, Neighbours.effective_override_interval, Network.{Deliver, Move, Network, Sent, Station, bad_move, event_of, frame_at, moved, moved_at, station_at}, Sets.prunes, State.{State}, Step.step, Tables.row_at}}
+use Rattle.pim_model.{specs.{Cause.done_as, Downstream.{accepted_joins, accepted_prunes, holdtime_end, is_accepted, is_named, joined_keys, pruned_keys}, Judging.judged, Messages.entry, Neighbours.effective_override_interval, Network.{Deliver, Move, Network, Sent, Station, bad_move, event_of, frame_at, moved, moved_at, station_at}, Sets.prunes, State.State, Step.step, Tables.row_at, declared.accepted.Accepted.Accepted}}
 use Rattle.law_settled.{specs.Ready.IsSettled}
 use Rattle.law_events.{specs.Rest.IsAtRest}
-use Rattle.law_streams.{specs.{Copies.happens, Joins.{IsWritable, join_value}, InTimeJoins.{Always, IsBy, IsReady, time_at}}, proofs.{Deliveries.{IsNewOn, IsStepped, is_delivered, is_stepped}, Pairs.{Steps, frame_stays, one_router, ready_then, same_station}, Passes.done_if, ReadBack.join_is_read, Upper.moves_on}}
-use Rattle.law_converges.{specs.{LinkRpt.{AnswersBy, Throughout, WaitsIn, WaitsOrIsGone, WantsFrom, is_pruned_by, joins_source, may_take_effect, override_to, override_packet, override_wait, sees_join}, LinkRptOrder.{AreInOrder, AreOnTime, Begins, Brings, GoesOn, IsOverridable, IsOverride, IsUnpruned, JoinComes, JoinIsSeen, NoneComes, OverriddenPruneHasNoEffect, PruneComes, PruneIsSeen, Wire}}, proofs.{LinkRptLower.{answer_comes, seen_prune_is_answered}, LinkRptUpper.{join_overrides, prune_waits}, LinkRptWaits.{prune_waits_on, unpruned_stays}, TakesOver.moved_so}}
+use Rattle.law_streams.{proofs.{Deliveries.{IsNewOn, IsStepped, is_delivered, is_stepped}, Pairs.{Steps, frame_stays, one_router, ready_then, same_station}, Passes.done_if, ReadBack.join_is_read, Shared.{none_behind, there_before}, Upper.moves_on}, specs.{Copies.happens, InTimeJoins.{Always, IsBy, IsReady, time_at}, Joins.{IsWritable, join_value}}}
+use Rattle.law_converges.{proofs.{LinkRptLower.{answer_comes, seen_prune_is_answered}, LinkRptUpper.{join_overrides, prune_waits}, LinkRptWaits.{prune_waits_on, unpruned_stays}, TakesOver.moved_so}, specs.{LinkRpt.{AnswersBy, Throughout, WaitsIn, WaitsOrIsGone, WantsFrom, is_pruned_by, joins_source, may_take_effect, override_packet, override_to, override_wait, sees_join}, LinkRptOrder.{AreInOrder, AreOnTime, Begins, Brings, GoesOn, IsOverridable, IsOverride, IsUnpruned, JoinComes, JoinIsSeen, NoneComes, OverriddenPruneHasNoEffect, PruneComes, PruneIsSeen, Wire}}}
 
 -- ---- numbers
 
@@ -70,43 +70,12 @@ limit_so present start sent within effective interval e g h = grind (arith, e, g
 
 -- ---- frames
 
-pub record Got (xs : List Sent) (k : ℕ) : Type 0 where
-  pub frame : Sent
-  pub is : slice_get xs k ≡ Some frame
-
-pub got_below : (xs : List Sent) (k : ℕ) → k < length xs → Got xs k
-got_below [] k lt = absurd (omega (arith, lt))
-got_below (y ∷ xs) zero lt = record { frame = y; is = refl }
-got_below (y ∷ xs) (suc k) lt = let later : Got xs k = got_below xs k (omega (arith, lt)) in record { frame = later.frame; is = later.is }
-
-beyond : (xs : List Sent) (k : ℕ) (f : Sent) → length xs ≤ k → slice_get xs k ≡ Some f → ⊥
-beyond [] k f le got = cc
-beyond (y ∷ xs) zero f le got = omega (arith, le)
-beyond (y ∷ xs) (suc k) f le got = beyond xs k f (omega (arith, le)) got
-
-pub none_behind : (n : Network) (k : ℕ) (f : Sent) → length n.frames < k → frame_at n k ≡ Some f → ⊥
-unfolding frame_at
-none_behind n zero f lt got = omega (arith, lt)
-none_behind n (suc k) f lt got = beyond n.frames k f (omega (arith, lt)) got
-
 pub there_is : (n : Network) (k : ℕ) (f : Sent) → frame_at n k ≡ Some f → k ≤ length n.frames
 there_is n k f is = go (nat_lt (length n.frames) k) refl
   where
     go : (b : Bool) → nat_lt (length n.frames) k ≡ b → k ≤ length n.frames
     go true lt = absurd (none_behind n k f (lt_so (length n.frames) k lt) is)
     go false le = le_so (length n.frames) k le
-
-same_frame : {o : Option Sent} {a b : Sent} → o ≡ Some a → o ≡ Some b → a ≡ b
-same_frame e f = grind arith
-
--- a frame of before a move
-pub there_before : (n : Network) (m : Move) (k : ℕ) (f : Sent) → k ≤ length n.frames → frame_at (moved n m).1 k ≡ Some f → frame_at n k ≡ Some f
-unfolding frame_at
-there_before n m zero f le got = got
-there_before n m (suc k) f le got =
-    let old : Got n.frames k = got_below n.frames k (omega (arith, le)) in
-    let same : old.frame ≡ f = same_frame (frame_stays n m (suc k) old.frame old.is) got in
-    old.is ∙ ap (λ (y : Sent). Some y) same
 
 -- ---- frames are never fewer
 
@@ -115,7 +84,7 @@ unfolding moved_at
 grow_at n e None is = rw is (le_self (length n.frames))
 grow_at n e (Some st) is = rw is (is_stepped n e.0 st e.1 is).grows
 
-frames_grow : (n : Network) (m : Move) → length n.frames ≤ length ((moved n m).1).frames
+pub frames_grow : (n : Network) (m : Move) → length n.frames ≤ length ((moved n m).1).frames
 unfolding moved
 frames_grow n m = go (event_of n m)
   where

@@ -88,31 +88,32 @@ module _ (key : Key) (Q : Option DownstreamRow → Type 0) (none : Q None) where
       (subst Q (sym (row_change_away q key (apart_keys q key off) _ s.downstream)) f)
       (subst Q (sym (row_drop_away q key (apart_keys q key off) s.downstream)) f)
 
-  abbrev NeverDue : State → Key → Type 0
-  NeverDue s q = same_key key q ≡ true → (r : DownstreamRow) → row_at s.downstream q ≡ Some r → ⊥
+  -- what the end of its own Prune-Pending Timer leaves
+  abbrev WhenDue : State → Key → Type 0
+  WhenDue s q = same_key key q ≡ true → (r : DownstreamRow) → row_at s.downstream q ≡ Some r → There (prune_pending_due s q r).0
 
-  pending_so : (s : State) (q : Key) → NeverDue s q → There s → There (option_map_or (prune_pending_due s q) (row_at s.downstream q) (s, [])).0
-  pending_so s q never f = go (row_at s.downstream q) refl
+  pending_so : (s : State) (q : Key) → WhenDue s q → There s → There (option_map_or (prune_pending_due s q) (row_at s.downstream q) (s, [])).0
+  pending_so s q due f = go (row_at s.downstream q) refl
     where
       some : (r : DownstreamRow) → row_at s.downstream q ≡ Some r → (b : Bool) → same_key key q ≡ b → There (prune_pending_due s q r).0
-      some r is true same = absurd (never same r is)
+      some r is true same = due same r is
       some r is false off = pending_away s q r off f
 
       go : (o : Option DownstreamRow) → row_at s.downstream q ≡ o → There (option_map_or (prune_pending_due s q) o (s, [])).0
       go None is = f
       go (Some r) is = some r is (same_key key q) refl
 
-  fired_so : (s : State) (kind : TimerKind) (q : Key) → (kind ≡ TimerKind.PrunePending → NeverDue s q) → There s → There (fired s kind q).0
+  fired_so : (s : State) (kind : TimerKind) (q : Key) → (kind ≡ TimerKind.PrunePending → WhenDue s q) → There s → There (fired s kind q).0
   unfolding fired fire_row downstream_expired
-  fired_so s TimerKind.PrunePending q never f = pending_so s q (never refl) f
-  fired_so s TimerKind.DownstreamExpiry q never f = dropped_so q s.downstream f
-  fired_so s kind q never f = by_rows s (fired s kind q).0 (others_same s kind q refl) f
+  fired_so s TimerKind.PrunePending q due f = pending_so s q (due refl) f
+  fired_so s TimerKind.DownstreamExpiry q due f = dropped_so q s.downstream f
+  fired_so s kind q due f = by_rows s (fired s kind q).0 (others_same s kind q refl) f
 
-  -- ---- time that goes on to a moment before which nothing takes effect
+  -- ---- time that goes on to a moment
 
   module _ (m : ℕ)
-      (early : (t : State) (n : ℕ) → IsLawful t → There t → n ≤ m → shows TimerKind.PrunePending (Ends key n) t ≡ true
-      → (r : DownstreamRow) → row_at t.downstream key ≡ Some r → ⊥) (w : ℕ) where
+      (due : (t : State) (n : ℕ) → IsLawful t → There t → n ≤ m → shows TimerKind.PrunePending (Ends key n) t ≡ true
+      → (r : DownstreamRow) → row_at t.downstream key ≡ Some r → There (prune_pending_due (record t { present = n }) key r).0) (w : ℕ) where
     record Kept (t : State) : Type 0 where
       there : There t
       lawful : IsLawful t
@@ -124,17 +125,18 @@ module _ (key : Key) (Q : Option DownstreamRow → Type 0) (none : Q None) where
         record {
           there = by_rows (fired opened d.timer.kind d.timer.key).0 (settled t (fired opened d.timer.kind d.timer.key) w).0
               (ap (λ (r : Rows). r.downstream) (settled_same t (fired opened d.timer.kind d.timer.key) w))
-              (fired_so opened d.timer.kind d.timer.key never f.there);
+              (fired_so opened d.timer.kind d.timer.key when f.there);
           lawful = one_firing_is_lawful w t d f.lawful;
         }
       where
-        never : d.timer.kind ≡ TimerKind.PrunePending → NeverDue (record t { present = d.end }) d.timer.key
-        never is same r found =
+        when : d.timer.kind ≡ TimerKind.PrunePending → WhenDue (record t { present = d.end }) d.timer.key
+        when is same r found =
             let alike : key ≡ d.timer.key = equal_keys key d.timer.key same in
-            early t d.end f.lawful f.there low
+            subst (λ (q : Key). There (prune_pending_due (record t { present = d.end }) q r).0) alike
+            (due t d.end f.lawful f.there low
             (subst (λ (q : Key). shows TimerKind.PrunePending (Ends q d.end) t ≡ true) (sym alike)
             (subst (λ (kind : TimerKind). shows kind (Ends d.timer.key d.end) t ≡ true) is shown)) r
-            (subst (λ (q : Key). row_at t.downstream q ≡ Some r) (sym alike) found)
+            (subst (λ (q : Key). row_at t.downstream q ≡ Some r) (sym alike) found))
 
     low_too : (a b : ℕ) → a ≤ b → b ≤ m → a ≤ m
     low_too a b e f = omega (arith, e, f)
@@ -155,9 +157,9 @@ module _ (key : Key) (Q : Option DownstreamRow → Type 0) (none : Q None) where
   -- ---- any event
 
   module _ (s : State) (e : Event) (rests : IsSettled s) (f : There s) where
-    abbrev Early : ℕ → Type 0
-    Early m = (t : State) (n : ℕ) → IsLawful t → There t → n ≤ m → shows TimerKind.PrunePending (Ends key n) t ≡ true
-        → (r : DownstreamRow) → row_at t.downstream key ≡ Some r → ⊥
+    abbrev DueBy : ℕ → Type 0
+    DueBy m = (t : State) (n : ℕ) → IsLawful t → There t → n ≤ m → shows TimerKind.PrunePending (Ends key n) t ≡ true
+        → (r : DownstreamRow) → row_at t.downstream key ≡ Some r → There (prune_pending_due (record t { present = n }) key r).0
 
     by_change : (a : Accepted) → done_as (happens s e) ≡ Some a → is_time a ≡ false → There (change s e.draw a).state → There (step s e).state
     unfolding done
@@ -166,22 +168,22 @@ module _ (key : Key) (Q : Option DownstreamRow → Type 0) (none : Q None) where
         (ap (λ (y : Answered). y.state.downstream) (step_taken s e a is ∙ taken_is_done s e.draw a timeless)
         ∙ ap (λ (r : Rows). r.downstream) (settled_same s ((change s e.draw a).state, (change s e.draw a).messages) e.draw)) h
 
-    by_time : (m : ℕ) → done_as (happens s e) ≡ Some (Accepted.Advance m) → Early m → There (step s e).state
+    by_time : (m : ℕ) → done_as (happens s e) ≡ Some (Accepted.Advance m) → DueBy m → There (step s e).state
     unfolding taken
-    by_time m is early =
+    by_time m is due =
         by_rows (advanced s e.draw m).state (step s e).state
         (ap (λ (y : Answered). y.state.downstream) (step_taken s e (Accepted.Advance m) is))
-        (time_so m early e.draw s (record { there = f; lawful = settled_is_lawful s rests }))
+        (time_so m due e.draw s (record { there = f; lawful = settled_is_lawful s rests }))
 
     event_so : (o : Option Accepted) → done_as (happens s e) ≡ o
-        → ((m : ℕ) → o ≡ Some (Accepted.Advance m) → Early m)
+        → ((m : ℕ) → o ≡ Some (Accepted.Advance m) → DueBy m)
         → ((j : IfaceId) (m : JoinPrune) → o ≡ Some (Accepted.JoinPruneToMe j m) → There (to_me s j.number m)) → There (step s e).state
     unfolding change
-    event_so None is early taken = subst There (sym (not_done s e is)) f
-    event_so (Some (Accepted.Advance m)) is early taken = by_time m is (early m refl)
-    event_so (Some (Accepted.Down j)) is early taken = by_change (Accepted.Down j) is refl (down_so s j.number f)
-    event_so (Some (Accepted.JoinPruneToMe j m)) is early taken = by_change (Accepted.JoinPruneToMe j m) is refl (taken j m refl)
-    event_so (Some a) is early taken = by_change a is refl (by_rows s (change s e.draw a).state (same_rows s e.draw a tt) f)
+    event_so None is due taken = subst There (sym (not_done s e is)) f
+    event_so (Some (Accepted.Advance m)) is due taken = by_time m is (due m refl)
+    event_so (Some (Accepted.Down j)) is due taken = by_change (Accepted.Down j) is refl (down_so s j.number f)
+    event_so (Some (Accepted.JoinPruneToMe j m)) is due taken = by_change (Accepted.JoinPruneToMe j m) is refl (taken j m refl)
+    event_so (Some a) is due taken = by_change a is refl (by_rows s (change s e.draw a).state (same_rows s e.draw a tt) f)
 
 -- ---- Prune-Pending
 
@@ -242,40 +244,48 @@ module _ (s : State) (i g src end : ℕ) where
       → may_take_effect i g src end s (done_as (happens s e)) ≡ false → Waits (row_at (step s e).state.downstream k)
   waits_on e rests f off =
       event_so k Waits (inl refl) s e rests (inr f) (done_as (happens s e)) refl
-      (λ m is. early_so m (subst (λ (o : Option Accepted). may_take_effect i g src end s o ≡ false) is off))
+      (λ m is t n lawful there low shown r found.
+      absurd (early_so m (subst (λ (o : Option Accepted). may_take_effect i g src end s o ≡ false) is off) t n lawful there low shown r found))
       (λ j m is. to_me_waits j.number m (subst (λ (o : Option Accepted). may_take_effect i g src end s o ≡ false) is off) f)
 
 pub prune_waits_on : PruneWaitsOn
 prune_waits_on s e i g src end rests f off = waits_on s i g src end e rests f off
 
--- ---- NoInfo
+-- ---- what a message that doesn't prune the source leaves
 
-module _ (s : State) (i g src : ℕ) (f : row_at s.downstream (rpt_key i g src) ≡ None) where
-  abbrev Gone : Option DownstreamRow → Type 0
-  Gone o = o ≡ None
+module _ (i g src : ℕ) (Q : Option DownstreamRow → Type 0) (none : Q None) where
+  abbrev its : Key
+  its = rpt_key i g src
 
-  module _ (j : ℕ) (m : JoinPrune) (off : is_named (pruned_keys j m) (rpt_key i g src) ≡ false) where
-    rule_gone : (a c : Bool) → is_named (joined_keys s j m) (rpt_key i g src) ≡ a → is_named (joined_keys s j m) (star_key j g) ≡ c
-        → row_after s j m.holdtime (joined_keys s j m) (pruned_keys j m) (rpt_key i g src) ≡ None
+  module _ (s : State) (f : Q (row_at s.downstream (rpt_key i g src))) (j : ℕ) (m : JoinPrune)
+      (off : is_named (pruned_keys j m) (rpt_key i g src) ≡ false) where
+    rule_kept : (a c : Bool) → is_named (joined_keys s j m) (rpt_key i g src) ≡ a → is_named (joined_keys s j m) (star_key j g) ≡ c
+        → Q (row_after s j m.holdtime (joined_keys s j m) (pruned_keys j m) (rpt_key i g src))
     unfolding row_after
-    rule_gone true true ea ec = rw (ea, off, ec) refl
-    rule_gone true false ea ec = rw (ea, off, ec) refl
-    rule_gone false true ea ec = rw (ea, off, ec) refl
-    rule_gone false false ea ec = rw (ea, off, ec) f
+    rule_kept true true ea ec = rw (ea, off, ec) none
+    rule_kept true false ea ec = rw (ea, off, ec) none
+    rule_kept false true ea ec = rw (ea, off, ec) none
+    rule_kept false false ea ec = rw (ea, off, ec) f
 
-    to_me_gone : row_at (to_me s j m).downstream (rpt_key i g src) ≡ None
+    to_me_kept : Q (row_at (to_me s j m).downstream (rpt_key i g src))
     unfolding to_me keys_taken
-    to_me_gone =
-        all_set (rpt_key i g src) Gone refl (λ q. row_after s j m.holdtime (joined_keys s j m) (pruned_keys j m) q)
-        (rule_gone (is_named (joined_keys s j m) (rpt_key i g src)) (is_named (joined_keys s j m) (star_key j g)) refl refl)
+    to_me_kept =
+        all_set its Q none (λ q. row_after s j m.holdtime (joined_keys s j m) (pruned_keys j m) q)
+        (rule_kept (is_named (joined_keys s j m) its) (is_named (joined_keys s j m) (star_key j g)) refl refl)
         (touched_keys s j (joined_keys s j m) (pruned_keys j m)) s.downstream f
 
-  stays_gone : (e : Event) → IsSettled s → is_pruned_by i g src (done_as (happens s e)) ≡ false
-      → row_at (step s e).state.downstream (rpt_key i g src) ≡ None
-  stays_gone e rests off =
-      event_so (rpt_key i g src) Gone refl s e rests f (done_as (happens s e)) refl
-      (λ m is t n lawful gone low shown r found. cc (sym gone ∙ found))
-      (λ j m is. to_me_gone j.number m (subst (λ (o : Option Accepted). is_pruned_by i g src o ≡ false) is off))
+  pub kept_unpruned : (s : State) (e : Event) → IsSettled s → Q (row_at s.downstream its)
+      → ((t : State) (r : DownstreamRow) → row_at t.downstream its ≡ Some r → Q (row_at t.downstream its)
+      → Q (row_at (prune_pending_due t its r).0.downstream its)) → is_pruned_by i g src (done_as (happens s e)) ≡ false
+      → Q (row_at (step s e).state.downstream its)
+  kept_unpruned s e rests f due off =
+      event_so its Q none s e rests f (done_as (happens s e)) refl
+      (λ m is t n lawful there low shown r found. due (record t { present = n }) r found there)
+      (λ j m is. to_me_kept s f j.number m (subst (λ (o : Option Accepted). is_pruned_by i g src o ≡ false) is off))
 
 pub unpruned_stays : UnprunedStays
-unpruned_stays s e i g src rests none off = stays_gone s i g src none e rests off
+unpruned_stays s e i g src rests gone off =
+    kept_unpruned i g src (λ o. o ≡ None) refl s e rests gone (λ t r found none. absurd (there_is_none (row_at t.downstream (rpt_key i g src)) r found none)) off
+  where
+    there_is_none : (o : Option DownstreamRow) (r : DownstreamRow) → o ≡ Some r → o ≡ None → ⊥
+    there_is_none o r e f = cc (sym f ∙ e)

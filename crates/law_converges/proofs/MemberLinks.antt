@@ -1,10 +1,10 @@
 -- Who serves a link with a member wants the group, and forwards its packets there.
-use Rattle.std.{proofs.{Common.{◌≡◌, ◌∙◌, ℕ, suc, ◌+◌, ◌*◌, ◌-◌, ◌<◌, ◌≤◌, ◌==◌, nat_lt, not, ◌&&◌, ◌||◌, Bool, true, false, cond, List, [], ◌∷◌, inl, inr, length, map, Some, refl, sym, ap, subst, arith, eq-eqb, eqb-true}, lemmas.Bool.Decides.nat_tests}, specs.{List.AllByRecursion, Prelude.slice_get}}
-use Rattle.pim_types.{specs.declared.fact.AssertMetric.AssertMetric}
-use Rattle.pim_model.{specs.{Network.{Move, Network, Station, station_at}, Neighbours.is_dr, Receivers.{is_exclude, local_receiver_exclude, local_receiver_star}, Sets.{assert_star, immediate_olist_star, is_loser, is_winner, joins_star, lost_assert_star, pim_include_star, serves_star}, State.{State, iface_count, is_up}, Unicast.is_rpf_interface_rp}}
+use Rattle.std.{proofs.{Common.{Bool, List, Some, [], ap, arith, cond, eq-eqb, eqb-true, false, inl, inr, map, nat_lt, not, refl, subst, sym, true, ℕ, ◌&&◌, ◌<◌, ◌==◌, ◌||◌, ◌∙◌, ◌∷◌, ◌≡◌, ◌≤◌}, lemmas.Bool.Decides.nat_tests}, specs.{List.AllByRecursion, Prelude.slice_get}}
+use Rattle.pim_types.{specs.{Keys.star_key, declared.fact.{AssertMetric.AssertMetric, AssertRow.AssertRow}}}
+use Rattle.pim_model.{specs.{Full.source_is_full, Neighbours.is_dr, Network.{Move, Network, Station, station_at}, Receivers.{is_exclude, local_receiver_exclude, local_receiver_star}, Sets.{assert_source, assert_star, immediate_olist_star, is_loser, is_winner, joins_star, lost_assert_star, pim_include_star, serves_star, spt_bit}, State.{State, iface_count, is_own, is_up}, Unicast.{is_rpf_interface, is_rpf_interface_rp}}}
 use Rattle.law_settled.{specs.Ready.IsSettled}
-use Rattle.law_streams.{specs.{InTimeJoins.{Always, AreThere, IsBy, IsHeld, IsReady, Pair, Star, Wants, time_at}, Passing.{Passes, Receiver, Tree, is_asked}}, proofs.{Pairs.same_station, Serves.on_the_tree, Taken.wanted_star}}
-use Rattle.law_converges.{specs.{Carried.{Arrivals, Traffic}, CarriedNetwork.{Claim, ClaimIsQuiet, HopOn, IsOneLan, IsQuietPlan, Lan, LanIsQuiet, LoserIsQuiet, Plan, layout_of, number_of}, CarriedWays.{forwarders, pair_on, root_of}, ComesOnce.{AreServedOnce, Forwards, HoldsPastOn}, JoinedWays.{AreHeldPast, AreHops, a_hop}, LinkDr.{HasOneDr, IsDrOf, IsOne, Member, Stands, between, is_preferred}, LinkLosers.Wins, LinkMembers.KnowsGroup, MemberLinks.{AreHeld, AsDr, AsWinner, HasNotLost, HasWay, IsOneClaim, IsOneGroup, IsOpenToMember, MemberIsWanted, MemberLinkIsServedOnce, MemberWayIsHeld, ReachesHosts, Serves, ServesMember, held_by, to_hosts}, Past.HoldsPast, Settles.{HasSettled, Link, LinkHasSettled, routers}}, proofs.{CarriedNetwork.{carried_network_settles, hops_quiet, length-mapped, one_lan}, CarriedWays.{its_lan, ready_past, served_once}, JoinedWays.rest, Past.{always_past, both_past, each_past, later_past, same_past, throughout_past}, Settles.{fewer, hops_past, one_of}}}
+use Rattle.law_streams.{proofs.{Pairs.same_station, Serves.on_the_tree, Taken.wanted_star}, specs.{InTimeJoins.{Always, AreThere, IsHeld, IsJoin, IsReady, Star, Wants}, Passing.{Passes, Receiver, Tree, is_asked}}}
+use Rattle.law_converges.{proofs.{CarriedNetwork.{carried_network_settles, one_lan}, CarriedWays.{HopsStand, its_lan, ready_past, served_once}, Past.{both_past, later_past, same_past, throughout_past}, RoutesToRp.within, Settles.one_of, Unheard.{HasState, none_lost_past}}, specs.{Carried.{Arrivals, Traffic}, CarriedNetwork.{Claim, ClaimIsQuiet, HopOn, IsOneLan, IsQuietPlan, Lan, LanIsQuiet, LoserIsQuiet, Plan, layout_of, number_of}, CarriedWays.{AreOnTree, forwarders, pair_on, root_of}, ComesOnce.{AreServedOnce, Forwards, HasOneOn}, LinkDr.{HasOneDr, IsDrOf, IsOne, Member, Stands, between, is_preferred}, LinkLosers.Wins, LinkMembers.KnowsGroup, MemberLinks.{AsDr, AsWinner, IsOneClaim, IsOneGroup, MemberIsWanted, Serves, ServesMember, Unbeaten, Undisputed, Winner, to_hosts}, Past.{HoldsPast, HoldsPastOn}, Settles.{HasSettled, Link, LinkHasSettled, routers}}}
 
 -- ---- lists
 
@@ -60,6 +60,13 @@ either_first a b e = grind arith
 either_second : (a b : Bool) → b ≡ true → (a || b) ≡ true
 either_second a b e = grind arith
 
+-- it has not lost the group's assert there
+pub record HasNotLost (g : ℕ) (x : Member) (n : Network) : Type 0 where
+  pub station : Station
+  pub there : station_at n x.router ≡ Some station
+  pub configured : x.iface < iface_count station.state
+  pub unlost : is_loser (assert_star station.state g x.iface) ≡ false
+
 -- the router is the DR or the winner, and knows the group
 record IsServing (g : ℕ) (x : Member) (n : Network) : Type 0 where
   station : Station
@@ -79,26 +86,51 @@ wants_so g rp x n f h =
           (subst (λ (z : Station). is_loser (assert_star z.state g x.iface) ≡ false) same h.unlost) f.known);
     }
 
+-- ---- who loses no assert
+
+no_loser : (r : AssertRow) → is_winner (Some r) ≡ true → is_loser (Some r) ≡ false
+no_loser r won = grind (arith, won)
+
+module _ (g d late lag bound : ℕ) (started : ℕ → ℕ) (t : Traffic) (came : Arrivals) (plan : Plan) (n : Network) (ms : List Move)
+    (q : IsQuietPlan d late lag bound started t came plan n ms) (a : Lan) (in_plan : IsOneLan plan.lans a) where
+  pub its_link : LanIsQuiet d late bound started t came n ms a
+  its_link = one_lan (LanIsQuiet d late bound started t came n ms) plan.lans a q.lans in_plan
+
+  loser_is : (c : Claim) (z : Member) → IsOneClaim a.claims c → IsOne c.losers z → LoserIsQuiet d bound started n ms a c z
+  loser_is c z is loses =
+      one_of (LoserIsQuiet d bound started n ms a c) c.losers z (one_claim (ClaimIsQuiet d bound started n ms a) a.claims c (its_link).claims is).losers loses
+
+  -- a router that wins a group's assert wins it throughout
+  pub wins_it : (c : Claim) (y z : Member) → IsOneClaim a.claims c → c.group ≡ g → c.source ≡ 0 → c.winner ≡ y → IsOne c.losers z
+      → Always (Wins g 0 c.metric (between (number_of a) y z)) n ms
+  wins_it c y z is group source won loses =
+      subst (λ (h : ℕ). Always (Wins h 0 c.metric (between (number_of a) y z)) n ms) group
+      (subst (λ (s : ℕ). Always (Wins c.group s c.metric (between (number_of a) y z)) n ms) source
+      (subst (λ (v : Member). Always (Wins c.group c.source c.metric (between (number_of a) v z)) n ms) won ((loser_is c z is loses).yields).wins))
+
+  pub unlost_past : (y : Member) → IsOne (routers a.link) y → Unbeaten g bound started n ms a y
+      → HoldsPast started bound (HasState (λ s. is_loser (assert_star s g y.iface) ≡ false) y.router) n ms
+  unlost_past y is (Undisputed f) = none_lost_past (star_key y.iface g) bound started y.router n ms (((its_link).meet).ready y is) f
+  unlost_past y is (Winner c z one group source won loses) =
+      same_past started bound (Wins g 0 c.metric (between (number_of a) y z)) (HasState (λ s. is_loser (assert_star s g y.iface) ≡ false) y.router)
+      (λ n w. record { station = w.station; there = w.there; good = ap is_loser w.found ∙ no_loser w.row w.wins }) ms n
+      (throughout_past started bound (Wins g 0 c.metric (between (number_of a) y z)) ms n (wins_it c y z one group source won loses))
+
 -- ---- the routers of the link
 
 module _ (g d late lag bound : ℕ) (started : ℕ → ℕ) (t : Traffic) (came : Arrivals) (plan : Plan) (n : Network) (ms : List Move) (a : Lan)
     (x : Member) (q : IsQuietPlan d late lag bound started t came plan n ms) (m : ServesMember g plan.lans a x) where
   pub quiet : LanIsQuiet d late bound started t came n ms a
-  quiet = one_lan (LanIsQuiet d late bound started t came n ms) plan.lans a q.lans m.among
+  quiet = its_link g d late lag bound started t came plan n ms q a m.among
 
   -- it is one of them
-  claimed : (c : Claim) → IsOneClaim a.claims c → ClaimIsQuiet d bound started n ms a c
-  claimed c is = one_claim (ClaimIsQuiet d bound started n ms a) a.claims c (quiet).claims is
-
-  loser_of : (c : Claim) (y : Member) → IsOneClaim a.claims c → IsOne c.losers y → LoserIsQuiet d bound started n ms a c y
-  loser_of c y is loses = one_of (LoserIsQuiet d bound started n ms a c) c.losers y (claimed c is).losers loses
-
   pub among : IsOne (routers a.link) x
   among = go m.serves
     where
       go : Serves g a x → IsOne (routers a.link) x
       go (AsDr is least) = is
-      go (AsWinner c y is group source won loses) = subst (IsOne (routers a.link)) won ((loser_of c y is loses).on).lower
+      go (AsWinner c y is group source won loses) =
+          subst (IsOne (routers a.link)) won ((loser_is g d late lag bound started t came plan n ms q a m.among c y is loses).on).lower
 
   settled : HoldsPast started bound (λ n. LinkHasSettled n a.link) n ms
   settled =
@@ -145,25 +177,46 @@ module _ (g d late lag bound : ℕ) (started : ℕ → ℕ) (t : Traffic) (came 
       go : Serves g a x → HoldsPast started bound (IsServing g x) n ms
       go (AsDr is least) = same_past started bound (λ n. LinkHasSettled n a.link) (IsServing g x) (as_dr least) ms n settled
       go (AsWinner c y is group source won loses) =
-          let f : LoserIsQuiet d bound started n ms a c y = loser_of c y is loses in
-          winner_past y c.metric
-          (subst (λ (h : ℕ). Always (Wins h 0 c.metric (between (number_of a) x y)) n ms) group
-          (subst (λ (s : ℕ). Always (Wins c.group s c.metric (between (number_of a) x y)) n ms) source
-          (subst (λ (z : Member). Always (Wins c.group c.source c.metric (between (number_of a) z y)) n ms) won (f.yields).wins)))
+          winner_past y c.metric (wins_it g d late lag bound started t came plan n ms q a m.among c x y is group source won loses)
 
-  pub wanted : (rp : ℕ) → HoldsPast started bound (HasNotLost g x) n ms → HoldsPast started bound (Wants (Star rp) g x.router) n ms
-  wanted rp unlost =
-      both_past started bound (IsServing g x) (HasNotLost g x) (Wants (Star rp) g x.router) (wants_so g rp x) ms n serving unlost
+  pub not_lost : Unbeaten g bound started n ms a x → HoldsPast started bound (HasNotLost g x) n ms
+  not_lost f =
+      both_past started bound (HasState (λ s. is_loser (assert_star s g x.iface) ≡ false) x.router) (Stands (number_of a) x) (HasNotLost g x)
+      (λ n u v. record {
+        station = u.station;
+        there = u.there;
+        configured = subst (λ (z : Station). x.iface < iface_count z.state) (same_station (v.sends).there u.there)
+            (within ((v.sends).station).state.configured.interfaces x.iface ((v.sends).readable).from_host);
+        unlost = u.good;
+      }) ms n (unlost_past g d late lag bound started t came plan n ms q a m.among x among f)
+      (throughout_past started bound (Stands (number_of a) x) ms n (((quiet).meet).stand x among))
+
+  pub wanted : (rp : ℕ) → Unbeaten g bound started n ms a x → HoldsPast started bound (Wants (Star rp) g x.router) n ms
+  wanted rp f =
+      both_past started bound (IsServing g x) (HasNotLost g x) (Wants (Star rp) g x.router) (wants_so g rp x) ms n serving (not_lost f)
 
 pub member_is_wanted : MemberIsWanted
-member_is_wanted g rp d late lag bound started t came plan n ms a x q m unlost = wanted g d late lag bound started t came plan n ms a x q m rp unlost
+member_is_wanted g rp d late lag bound started t came plan n ms a x q m f = wanted g d late lag bound started t came plan n ms a x q m rp f
 
 -- ---- it forwards the packets to the hosts
 
 asked_so : (e x d w : Bool) → e ≡ true → x ≡ false → (d || w) ≡ true → ((e && not x) && (d || w)) ≡ true
 asked_so e x d w a b c = grind arith
 
--- what the router and its next hop keep to throughout
+-- Nothing keeps a source's packets from the hosts: the router takes them on the group's tree, and has room for the source; it has not lost
+-- the source's assert on the link, no host there excludes the source, and the router has one interface there.
+pub record ReachesHosts (g src up link : ℕ) (x : Member) (n : Network) : Type 0 where
+  pub station : Station
+  pub there : station_at n x.router ≡ Some station
+  pub configured : up < iface_count station.state
+  pub foreign : is_own station.state src ≡ false
+  pub shared : (spt_bit station.state g src && not (is_rpf_interface station.state src up)) ≡ false
+  pub room : source_is_full station.state g src ≡ false
+  pub unlost : is_loser (assert_source station.state g src x.iface) ≡ false
+  pub included : local_receiver_exclude station.state g src x.iface ≡ false
+  pub one : HasOneOn x.iface link station
+
+-- what the router and its next hop keep to
 record IsUnderWay (rp g : ℕ) (x : Member) (h : HopOn) (n : Network) : Type 0 where
   ready : IsReady x.router n
   stands : Stands (number_of h.lan) h.lower n
@@ -246,54 +299,24 @@ module _ (g src rp : ℕ) (a : Lan) (x : Member) (h : HopOn) (n : Network) (firs
   forwards : Forwards g src (to_hosts a x h) n
   forwards = record { station = st; there = here; passes = passes; above = linked; below = (f.reaches).one }
 
--- ---- its next hops come to hold the group
-
-module _ (g rp d late lag bound : ℕ) (started : ℕ → ℕ) (t : Traffic) (came : Arrivals) (plan : Plan) (n : Network) (ms : List Move) (a : Lan)
-    (x : Member) (hops : List HopOn) (q : IsQuietPlan d late lag bound started t came plan n ms)
-    (o : HasWay g rp bound started t plan.lans n ms a x hops) where
-  abbrev pairs : List Pair
-  pairs = map pair_on hops
-
-  are_hops : AreHops (Star rp) g d started n ms x.router pairs
-  are_hops = hops_quiet d late lag bound started t came n ms q.few (Star rp) g plan.lans o.addresses q.lans x.router hops o.quiet
-
-  sooner : IsBy started x.router (bound + lag) n
-  sooner = λ st at. more (time_at started x.router st) (o.early st at)
-    where
-      more : (i : ℕ) → i ≤ bound → i ≤ bound + lag
-      more i le = omega (arith, le)
-
-  in_turn : AreHeldPast (Star rp) g d lag (bound + a_hop d lag) started n ms pairs
-  in_turn =
-      rest (Star rp) g d lag started n ms o.addresses (fewer d q.few) q.together pairs bound x.router are_hops
-      (wanted g d late lag bound started t came plan n ms a x q o.serves rp o.unlost) sooner
-
--- by how much the last one is later
-in_all : (d lag bound : ℕ) (h : HopOn) (hs : List HopOn) (cs : List Pair) → length cs ≡ length (h ∷ hs)
-    → bound + a_hop d lag + (length cs - 1) * a_hop d lag ≤ held_by d lag bound (h ∷ hs)
-in_all d lag bound h hs cs same =
-    subst (λ (k : ℕ). bound + a_hop d lag + (k - 1) * a_hop d lag ≤ held_by d lag bound (h ∷ hs)) (sym same) (so (length hs) (a_hop d lag))
-  where
-    no_more : (i j : ℕ) → i ≡ j → i ≤ j
-    no_more i j e = omega (arith, e)
-
-    so : (k z : ℕ) → bound + z + (suc k - 1) * z ≤ bound + suc k * z
-    so k z = let one : suc k - 1 ≡ k = omega arith in no_more _ _ (rw one (grind arith))
-
-pub member_way_is_held : MemberWayIsHeld
-member_way_is_held g rp d late lag bound started t came plan n ms a x [] q o =
-    always_past started (held_by d lag bound []) (AreHeld g rp []) (λ n. tt) ms n
-member_way_is_held g rp d late lag bound started t came plan n ms a x (h ∷ hs) q o =
-    each_past started (held_by d lag bound (h ∷ hs)) (λ c n. IsHeld (Star rp) g c n) (map pair_on (h ∷ hs)) n ms
-    (hops_past started (held_by d lag bound (h ∷ hs)) d q.few n ms lag q.together (Star rp) g (map pair_on (h ∷ hs)) (bound + a_hop d lag)
-    (in_all d lag bound h hs (map pair_on (h ∷ hs)) (length-mapped pair_on (h ∷ hs)))
-    (in_turn g rp d late lag bound started t came plan n ms a x (h ∷ hs) q o))
+-- from a limit on, which is no sooner than the bound, its next hops up to the RP hold the group, and are on the group's tree
+pub record IsOpenTo (g src rp bound limit : ℕ) (started : ℕ → ℕ) (lans : List Lan) (n : Network) (ms : List Move) (a : Lan) (x : Member)
+    (h : HopOn) (hs : List HopOn) : Type 0 where
+  pub serves : ServesMember g lans a x
+  pub addresses : IsJoin (Star rp) g
+  pub stand : HopsStand (Star rp) g limit started lans n ms x.router (h ∷ hs)
+  pub unlost : HoldsPast started bound (HasNotLost g x) n ms
+  pub apart : (number_of a == number_of h.lan) ≡ false
+  pub later : bound ≤ limit
+  pub held : HoldsPast started limit (λ n. AllByRecursion (λ c. IsHeld (Star rp) g c n) (map pair_on (h ∷ hs))) n ms
+  pub reaches : HoldsPast started limit (ReachesHosts g src (h.lower).iface (number_of a) x) n ms
+  pub tree : HoldsPast started limit (AreOnTree g src h hs) n ms
 
 -- ---- down that way
 
 module _ (g src rp d late lag bound limit : ℕ) (started : ℕ → ℕ) (t : Traffic) (came : Arrivals) (plan : Plan) (n : Network) (ms : List Move)
     (a : Lan) (x : Member) (h : HopOn) (hs : List HopOn) (q : IsQuietPlan d late lag bound started t came plan n ms)
-    (o : IsOpenToMember g src rp bound limit started t plan.lans n ms a x h hs) where
+    (o : IsOpenTo g src rp bound limit started plan.lans n ms a x h hs) where
   abbrev Later : (Network → Type 0) → Type 0
   Later P = HoldsPast started limit P n ms
 
@@ -301,13 +324,13 @@ module _ (g src rp d late lag bound limit : ℕ) (started : ℕ → ℕ) (t : Tr
   both P Q R so p q = both_past started limit P Q R so ms n p q
 
   abbrev its : ServesMember g plan.lans a x
-  its = (o.way).serves
+  its = o.serves
 
   own : LanIsQuiet d late bound started t came n ms a
   own = quiet g d late lag bound started t came plan n ms a x q its
 
   above : LanIsQuiet d late bound started t came n ms h.lan
-  above = its_lan g src rp d late bound limit started t came plan.lans n ms q.lans h ((o.way).quiet).1
+  above = its_lan g src rp d late bound limit started t came plan.lans n ms q.lans h (o.stand).1
 
   can_forward : Later (CanForward g src rp a x h)
   can_forward =
@@ -323,7 +346,7 @@ module _ (g src rp d late lag bound limit : ℕ) (started : ℕ → ℕ) (t : Tr
       })
       (both (IsServing g x) (HasNotLost g x) (λ n. IsServing g x n × HasNotLost g x n) (λ n u v. (u, v))
       (later_past started limit bound o.later (IsServing g x) ms n (serving g d late lag bound started t came plan n ms a x q its))
-      (later_past started limit bound o.later (HasNotLost g x) ms n (o.way).unlost))
+      (later_past started limit bound o.later (HasNotLost g x) ms n o.unlost))
       (both (ReachesHosts g src (h.lower).iface (number_of a) x) Rest
       (λ n. ReachesHosts g src (h.lower).iface (number_of a) x n × Rest n) (λ n u v. (u, v)) o.reaches
       (both (IsReady x.router) (λ n. Stands (number_of h.lan) h.lower n × AreThere (Star rp) g (pair_on h) n) Rest
@@ -331,8 +354,8 @@ module _ (g src rp d late lag bound limit : ℕ) (started : ℕ → ℕ) (t : Tr
       (ready_past started limit x.router ms n ((own).meet.ready x (among g d late lag bound started t came plan n ms a x q its)))
       (both (Stands (number_of h.lan) h.lower) (AreThere (Star rp) g (pair_on h))
       (λ n. Stands (number_of h.lan) h.lower n × AreThere (Star rp) g (pair_on h) n) (λ n u v. (u, v))
-      (throughout_past started limit (Stands (number_of h.lan) h.lower) ms n (((above).meet).stand h.lower ((((o.way).quiet).1).on).lower))
-      (throughout_past started limit (AreThere (Star rp) g (pair_on h)) ms n (((o.way).quiet).1).there))))
+      (throughout_past started limit (Stands (number_of h.lan) h.lower) ms n (((above).meet).stand h.lower (((o.stand).1).on).lower))
+      ((o.stand).1).there)))
     where
       Rest : Network → Type 0
       Rest n = IsUnderWay rp g x h n
@@ -340,12 +363,9 @@ module _ (g src rp d late lag bound limit : ℕ) (started : ℕ → ℕ) (t : Tr
   pub passes_on : Later (Forwards g src (to_hosts a x h))
   passes_on =
       same_past started limit (CanForward g src rp a x h) (Forwards g src (to_hosts a x h))
-      (λ n f. forwards g src rp a x h n ((o.way).quiet).0 o.apart f) ms n can_forward
+      (λ n f. forwards g src rp a x h n (o.stand).0 o.apart f) ms n can_forward
 
-  once : HoldsPastOn started limit (AreServedOnce g src d started t (root_of h hs) (number_of a) (to_hosts a x h ∷ forwarders h hs)) n ms
+  pub once : HoldsPastOn started limit (AreServedOnce g src d started t (root_of h hs) (number_of a) (to_hosts a x h ∷ forwarders h hs)) n ms
   once =
-      served_once g src rp d late bound limit started t came plan.lans n ms q.lans h hs (to_hosts a x h) x.router (o.way).addresses (o.way).quiet
-      refl refl o.held o.tree passes_on
-
-pub member_link_is_served_once : MemberLinkIsServedOnce
-member_link_is_served_once = once
+      served_once g src rp d late bound limit started t came plan.lans n ms q.lans h hs (to_hosts a x h) x.router o.addresses o.stand refl refl
+      o.held o.tree passes_on

@@ -1,9 +1,10 @@
 -- The premises, computed by their tests, and what follows.
-use Rattle.std.{proofs.Common.{◌≡◌, ℕ, ◌&&◌, Bool, true, false, [], ◌∷◌, inl, inr, refl, sym, ap, subst, lit≤, lit<}}
-use Rattle.pim_model.{specs.Network.{Move, Network, moved}}
+use Rattle.std.{proofs.Common.{Bool, List, [], ap, arith, false, inl, inr, lit<, lit≤, refl, subst, suc, sym, true, zero, ℕ, ◌&&◌, ◌+◌, ◌∷◌, ◌≡◌, ◌≤◌}, specs.{Cmp.{first_so, second_so}, Option.option_map_or}}
+use Rattle.pim_types.{specs.{Keys.{rpt_key, source_key, star_key}, declared.fact.Key.Key}}
+use Rattle.pim_model.{specs.{Network.{Move, Network, Station, moved, station_at}, Tables.row_at}}
 use Rattle.law_streams.{specs.{InTimeJoins.IsReady, Joins.join_packet}}
-use Rattle.pim_runs.{specs.{Base.rp, InTime.started, ServedChain.asked_group}, proofs.OnLiterals.machine_on_literals}
-use Rattle.law_converges.{specs.{Carried.EachMove, AloneOnLink.{ComesDownTheWay, LostGroup, NoHosts, OthersSendNone, SendsNone}, CarriedNetwork.{HopOn, LanIsQuiet, WayIsQuiet, layout_of}, CarriedNetworkRun.{before, bound, claim, far_source, farther_joins, farther_on_high, farther_on_low, high_lan, lag, low_lan, moves, nearer_on_high, nearer_on_low, none_came, soon, traffic, way}, CarriedWays.{AreOnTree, IsClear, pair_on}, CarriedWaysRun.its_hop, LinkDr.{IsOne, Member, between, is_preferred}, MemberLinks.{AreHeld, AsDr, AsWinner, HasNotLost, HasWay, ReachesHosts}, MemberLinksRun.{BothAreOpen, BothAreServedOnce, BothAreWanted, NoOthersSend, NothingElseComesToBoth, ServedPlanIsQuiet, farther_on_own, other_hop, other_way, own_lan, served_plan}, Past.{ArePast, HoldsPast}, Settles.{HasSettled, routers}}, proofs.{AloneOnLink.{before_each, each_move_both, member_link_brings_nothing_else}, CarriedNetwork.carried_network_settles, CarriedNetworkRun.{carried, farther_ready, high_quiet, low_quiet, on_high, rp_joined, together_passes, way_quiet}, CarriedTests.{carries_test, each_move_so, move_test}, HelloTests.single_so, JoinTests.{first_due, first_test, first_wants, near_of, near_test, unlost_of, unlost_test}, KeepsTests.{ask_keeps, ask_keeps_so, meet_keeps, meet_keeps_so}, MemberLinks.{member_is_wanted, member_link_is_served_once}, MemberTests.{inside_so, inside_test, members_so, members_test, reaches_at, reaches_so, sourceless_at, sourceless_so, takes_at, takes_so, unasked_at, unasked_so, unlost_at, unlost_so}, Past.same_past, QueryTests.{member_so, member_test}, Tested.{all_together, by_so, is_by, then}, WayTests.{clear_at, clear_so, early, isnt_past, past_run, past_run_so}}}
+use Rattle.pim_runs.{proofs.OnLiterals.machine_on_literals, specs.{Base.rp, InTime.started, ServedChain.asked_group}}
+use Rattle.law_converges.{proofs.{AloneOnLink.{before_each, each_move_both}, CarriedNetworkRun.{carried, farther_ready, high_quiet, low_quiet, together_passes}, CarriedTests.{carries_test, each_move_so, move_test}, HelloTests.single_so, KeepsTests.{ask_keeps, ask_keeps_so, meet_keeps, meet_keeps_so}, MemberLinks.member_is_wanted, MemberTests.{EachHeard, all_over, heard_none, inside_so, inside_test, members_so, members_test, none_heard, sourceless_at, sourceless_so, takes_at, takes_so, unasked_at, unasked_so}, QueryTests.{member_so, member_test}, Tested.{Found, all_together, found, happens_not, not_so, then}, WayTests.{early, isnt_past, past_run, past_run_so}}, specs.{AloneOnLink.{ComesDownTheWay, LostGroup, NoHosts, OthersSendNone, SendsNone}, Carried.EachMove, CarriedNetwork.LanIsQuiet, CarriedNetworkRun.{before, bound, claim, far_source, farther_on_high, farther_on_low, high_lan, lag, low_lan, moves, nearer_on_high, nearer_on_low, none_came, rp_on_high, soon, traffic}, CarriedWaysRun.its_hop, LinkDr.{IsOne, Member, between, is_preferred}, LinkRpt.is_pruned_by, MemberLinks.{AsDr, AsWinner, ServesMember, Undisputed, Winner}, MemberLinksRun.{BothAreWanted, NoOthersSend, ServedPlanIsQuiet, farther_on_own, other_hop, own_lan, served_plan}, Past.ArePast, Settles.routers, Unheard.{HearsNoPrune, HearsNone, is_gone}}}
 
 -- ---- the second router's own link
 
@@ -49,95 +50,15 @@ own_quiet = record {
   wishes = tt;
 }
 
--- ---- both ways
-
-other_first : first_test soon bound started (on_high farther_joins) before moves ≡ true
-unfolding machine_on_literals join_packet
-other_first = refl
-
-other_near : near_test soon bound started (on_high farther_joins) before ≡ true
-unfolding machine_on_literals join_packet
-other_near = refl
-
-other_unlost : unlost_test soon bound started (on_high farther_joins) before moves ≡ true
-unfolding machine_on_literals join_packet
-other_unlost = refl
-
-first_way : WayIsQuiet soon lag bound started traffic served_plan.lans before moves way
-first_way =
-    let f = (way_quiet).hops.1 in record {
-      addresses = rp_joined;
-      hops = (refl, record { among = inr (inl refl); on = f.on; near = f.near; there = f.there; keeps = f.keeps; unlost = f.unlost }, tt);
-      wants = (way_quiet).wants;
-      begin = (way_quiet).begin;
-      due = (way_quiet).due;
-      by = (way_quiet).by;
-    }
-
-second_way : WayIsQuiet soon lag bound started traffic served_plan.lans before moves other_way
-second_way =
-    let f = (high_quiet).joins.1.0 in record {
-      addresses = rp_joined;
-      hops = (
-        refl,
-        record {
-          among = inr (inl refl);
-          on = f.on;
-          near = near_of soon bound started (on_high farther_joins) before other_near;
-          there = f.there;
-          keeps = f.keeps;
-          unlost = unlost_of soon bound started (on_high farther_joins) before moves other_unlost;
-        },
-        tt,
-      );
-      wants = first_wants soon bound started (on_high farther_joins) before moves other_first;
-      begin = bound;
-      due = first_due soon bound started (on_high farther_joins) before moves other_first;
-      by = lit≤ tt;
-    }
-
 pub served_plan_is_quiet : ServedPlanIsQuiet
 served_plan_is_quiet = record {
   few = lit< tt;
   together = all_together lag started (λ q r. refl) before moves together_passes;
   lans = (low_quiet, (high_quiet, (own_quiet, tt)));
-  ways = (first_way, (second_way, tt));
+  ways = tt;
 }
 
-settled : HoldsPast started bound (HasSettled (layout_of soon soon started traffic served_plan)) before moves
-settled = carried_network_settles soon soon lag bound started traffic none_came served_plan before moves served_plan_is_quiet
-
--- ---- both are served
-
-low_unlost : past_run started bound 2 (unlost_at asked_group far_source nearer_on_low) before moves ≡ true
-unfolding machine_on_literals join_packet
-low_unlost = refl
-
-own_unlost : past_run started bound 2 (unlost_at asked_group far_source farther_on_own) before moves ≡ true
-unfolding machine_on_literals join_packet
-own_unlost = refl
-
-unlost_past : (x : Member) → past_run started bound 2 (unlost_at asked_group far_source x) before moves ≡ true
-    → HoldsPast started bound (HasNotLost asked_group x) before moves
-unlost_past x e =
-    past_run_so started bound 2 (unlost_at asked_group far_source x) (HasNotLost asked_group x) (unlost_so asked_group far_source x) moves before e
-
-nearer_early : is_by started 0 bound before ≡ true
-unfolding machine_on_literals join_packet
-nearer_early = refl
-
-farther_early : is_by started 1 bound before ≡ true
-unfolding machine_on_literals join_packet
-farther_early = refl
-
-low_way : HasWay asked_group rp bound started traffic served_plan.lans before moves low_lan nearer_on_low (its_hop ∷ [])
-low_way = record {
-  serves = record { among = inl refl; member = inl refl; serves = AsWinner claim farther_on_low (inl refl) refl refl refl (inl refl) };
-  addresses = rp_joined;
-  quiet = (first_way).hops;
-  early = by_so started 0 bound before nearer_early;
-  unlost = unlost_past nearer_on_low low_unlost;
-}
+-- ---- both are wanted
 
 not_to_itself : is_preferred farther_on_own farther_on_own ≡ false
 unfolding machine_on_literals
@@ -147,79 +68,96 @@ own_first : (y : Member) → IsOne (routers (own_lan).link) y → is_preferred y
 own_first y (inl same) = subst (λ (z : Member). is_preferred z farther_on_own ≡ false) same not_to_itself
 own_first y (inr none) = absurd none
 
-own_way : HasWay asked_group rp bound started traffic served_plan.lans before moves own_lan farther_on_own (other_hop ∷ [])
-own_way = record {
-  serves = record { among = inr (inr (inl refl)); member = inl refl; serves = AsDr (inl refl) own_first };
-  addresses = rp_joined;
-  quiet = (second_way).hops;
-  early = by_so started 1 bound before farther_early;
-  unlost = unlost_past farther_on_own own_unlost;
-}
+pub low_serves : ServesMember asked_group served_plan.lans low_lan nearer_on_low
+low_serves = record { among = inl refl; member = inl refl; serves = AsWinner claim farther_on_low (inl refl) refl refl refl (inl refl) }
 
-low_reaches : past_run started bound 2 (reaches_at asked_group far_source nearer_on_low 1 1) before moves ≡ true
+pub own_serves : ServesMember asked_group served_plan.lans own_lan farther_on_own
+own_serves = record { among = inr (inr (inl refl)); member = inl refl; serves = AsDr (inl refl) own_first }
+
+-- no Assert of the group comes to the routers of the second LAN, or on the second router's own link; none of the source comes anywhere, and
+-- nobody prunes the source
+abbrev pub keys_of : ℕ → List Key
+keys_of zero = star_key 1 asked_group ∷ source_key 0 asked_group far_source ∷ []
+keys_of (suc zero) = star_key 1 asked_group ∷ star_key 2 asked_group ∷ source_key 2 asked_group far_source ∷ []
+keys_of (suc (suc r)) = star_key 0 asked_group ∷ source_key 0 asked_group far_source ∷ []
+
+abbrev none_to : ℕ → Network → Move → Bool
+none_to r n m = none_heard r (keys_of r) n m
+
+abbrev none_prunes : Network → Move → Bool
+none_prunes n m = happens_not 2 (λ s a. is_pruned_by 0 asked_group far_source a) n m
+
+abbrev none_to_rp : Network → Move → Bool
+none_to_rp n m = none_to 2 n m && none_prunes n m
+
+abbrev none_higher : Network → Move → Bool
+none_higher n m = none_to 1 n m && none_to_rp n m
+
+abbrev is_unheard : Network → Move → Network → Bool
+is_unheard n m next = none_to 0 n m && none_higher n m
+
+unheard_passes : move_test is_unheard before moves ≡ true
 unfolding machine_on_literals join_packet
-low_reaches = refl
+unheard_passes = refl
 
-own_reaches : past_run started bound 2 (reaches_at asked_group far_source farther_on_own 1 4) before moves ≡ true
+abbrev are_over : Network → Bool
+are_over n =
+    all_over 0 (keys_of 0) n && (all_over 1 (keys_of 1) n && (all_over 2 (keys_of 2) n
+    && option_map_or (λ (st : Station). is_gone 0 (row_at (st.state).downstream (rpt_key 0 asked_group far_source))) (station_at n 2) false))
+
+over_passes : are_over before ≡ true
 unfolding machine_on_literals join_packet
-own_reaches = refl
+over_passes = refl
 
-reaches_past : (x : Member) (link : ℕ) → past_run started bound 2 (reaches_at asked_group far_source x 1 link) before moves ≡ true
-    → HoldsPast started bound (ReachesHosts asked_group far_source 1 link x) before moves
-reaches_past x link e =
-    past_run_so started bound 2 (reaches_at asked_group far_source x 1 link) (ReachesHosts asked_group far_source 1 link x)
-    (reaches_so asked_group far_source x 1 link) moves before e
+pub record AreUnheard (n : Network) (ms : List Move) : Type 0 where
+  pub nearer : EachHeard 0 (keys_of 0) n ms
+  pub farther : EachHeard 1 (keys_of 1) n ms
+  pub at_rp : EachHeard 2 (keys_of 2) n ms
+  pub pruned : HearsNoPrune asked_group far_source bound started rp_on_high n ms
 
-its_clear : past_run started bound 2 (clear_at asked_group far_source (pair_on its_hop)) before moves ≡ true
-unfolding machine_on_literals join_packet
-its_clear = refl
+-- of any network and moves, so that none is computed here
+unheard_of : (n : Network) (ms : List Move) → are_over n ≡ true → move_test is_unheard n ms ≡ true → AreUnheard n ms
+unheard_of n ms first moves =
+    then first (λ nearer e. then e (λ farther e. then e (λ at_rp gone. record {
+      nearer = record { over = nearer; moves = each_move_so is_unheard _ (λ n m e. first_so (none_to 0 n m) (none_higher n m) e) ms n moves };
+      farther = record {
+        over = farther;
+        moves = each_move_so is_unheard _ (λ n m e. first_so (none_to 1 n m) (none_to_rp n m) (higher n m e)) ms n moves;
+      };
+      at_rp = record { over = at_rp; moves = each_move_so is_unheard _ (λ n m e. first_so (none_to 2 n m) (none_prunes n m) (to_rp n m e)) ms n moves };
+      pruned =
+          let f : Found Station _ (station_at n 2) = found Station _ (station_at n 2) gone in record {
+            none = each_move_so is_unheard _ (λ n m e. not_so 2 (λ s a. is_pruned_by 0 asked_group far_source a) n m
+                (second_so (none_to 2 n m) (none_prunes n m) (to_rp n m e))) ms n moves;
+            station = f.it;
+            there = f.is;
+            until = 0;
+            over = f.passes;
+            by = at_least (started 2 + 0) bound;
+          };
+    })))
+  where
+    higher : (n : Network) (m : Move) → is_unheard n m (moved n m).1 ≡ true → none_higher n m ≡ true
+    higher n m e = second_so (none_to 0 n m) (none_higher n m) e
 
-other_clear : past_run started bound 2 (clear_at asked_group far_source (pair_on other_hop)) before moves ≡ true
-unfolding machine_on_literals join_packet
-other_clear = refl
+    to_rp : (n : Network) (m : Move) → is_unheard n m (moved n m).1 ≡ true → none_to_rp n m ≡ true
+    to_rp n m e = second_so (none_to 1 n m) (none_to_rp n m) (higher n m e)
 
-clear_past : (h : HopOn) → past_run started bound 2 (clear_at asked_group far_source (pair_on h)) before moves ≡ true
-    → HoldsPast started bound (AreOnTree asked_group far_source h []) before moves
-clear_past h e =
-    past_run_so started bound 2 (clear_at asked_group far_source (pair_on h)) (IsClear asked_group far_source (pair_on h))
-    (clear_so asked_group far_source (pair_on h)) moves before e
+    at_least : (i j : ℕ) → 0 ≤ j
+    at_least i j = omega arith
 
-pub both_are_open : BothAreOpen
-both_are_open = (
-  record {
-    way = low_way;
-    apart = refl;
-    later = lit≤ tt;
-    held = same_past started bound (HasSettled (layout_of soon soon started traffic served_plan)) (AreHeld asked_group rp (its_hop ∷ [])) (λ n a. a.ways.0)
-        moves before settled;
-    reaches = reaches_past nearer_on_low 1 low_reaches;
-    tree = clear_past its_hop its_clear;
-  },
-  record {
-    way = own_way;
-    apart = refl;
-    later = lit≤ tt;
-    held = same_past started bound (HasSettled (layout_of soon soon started traffic served_plan)) (AreHeld asked_group rp (other_hop ∷ []))
-        (λ n a. a.ways.1.0) moves before settled;
-    reaches = reaches_past farther_on_own 4 own_reaches;
-    tree = clear_past other_hop other_clear;
-  },
-)
+pub are_unheard : AreUnheard before moves
+are_unheard = unheard_of before moves over_passes unheard_passes
+
+pub own_unheard : HearsNone (star_key 2 asked_group) bound started 1 before moves
+own_unheard = heard_none bound started 1 (keys_of 1) before moves (are_unheard).farther (star_key 2 asked_group) (inr (inl refl)) (lit≤ tt)
 
 pub both_are_wanted : BothAreWanted
 both_are_wanted = (
   member_is_wanted asked_group rp soon soon lag bound started traffic none_came served_plan before moves low_lan nearer_on_low
-      served_plan_is_quiet (low_way).serves (low_way).unlost,
+      served_plan_is_quiet low_serves (Winner claim farther_on_low (inl refl) refl refl refl (inl refl)),
   member_is_wanted asked_group rp soon soon lag bound started traffic none_came served_plan before moves own_lan farther_on_own
-      served_plan_is_quiet (own_way).serves (own_way).unlost,
-)
-
-pub both_are_served_once : BothAreServedOnce
-both_are_served_once = (
-  member_link_is_served_once asked_group far_source rp soon soon lag bound bound started traffic none_came served_plan before moves low_lan
-      nearer_on_low its_hop [] served_plan_is_quiet (both_are_open).0,
-  member_link_is_served_once asked_group far_source rp soon soon lag bound bound started traffic none_came served_plan before moves own_lan
-      farther_on_own other_hop [] served_plan_is_quiet (both_are_open).1,
+      served_plan_is_quiet own_serves (Undisputed own_unheard),
 )
 
 -- ---- nobody else sends there
@@ -366,12 +304,4 @@ no_others_send = (
   each_move_both (λ n m. ArePast started bound n → IsSilentAt n) (IsInside 1)
       (λ n m. ArePast started bound n → ComesDownTheWay asked_group far_source own_lan farther_on_own other_hop [] n m)
       (λ n m f g past. own_comes n m (silent_so n (f past)) g) moves before silent_each (inside_each 1 farther_inside),
-)
-
-pub nothing_else_comes_to_both : NothingElseComesToBoth
-nothing_else_comes_to_both = (
-  member_link_brings_nothing_else asked_group far_source rp soon soon lag bound bound started traffic none_came served_plan before moves low_lan
-      nearer_on_low its_hop [] served_plan_is_quiet (both_are_open).0 (no_others_send).0 (no_others_send).1,
-  member_link_brings_nothing_else asked_group far_source rp soon soon lag bound bound started traffic none_came served_plan before moves own_lan
-      farther_on_own other_hop [] served_plan_is_quiet (both_are_open).1 (no_others_send).0 (no_others_send).2,
 )

@@ -1,10 +1,10 @@
--- Whether a link with a member is open to it, and nobody else sends there: tests, and that where they pass it is so.
-use Rattle.std.{proofs.Common.{◌≡◌, ◌∙◌, ℕ, zero, suc, ◌+◌, ◌==◌, nat_lt, not, ◌&&◌, ◌||◌, Bool, true, false, List, [], ◌∷◌, inl, inr, Option, Some, None, refl, sym, subst, arith, eqb-true, eq-eqb}, specs.{Option.option_map_or, Prelude.slice_get}}
+-- Whether nothing keeps packets from a link with a member, and nobody else sends there: tests, and that where they pass it is so.
+use Rattle.std.{proofs.Common.{Bool, List, None, Option, Some, [], arith, eq-eqb, eqb-true, false, inl, inr, not, refl, subst, suc, sym, true, zero, ℕ, ◌&&◌, ◌+◌, ◌==◌, ◌||◌, ◌∙◌, ◌∷◌, ◌≡◌, ◌≤◌, ◌⊎◌}, specs.{List.{list_all, list_any}, Option.option_map_or, Prelude.slice_get}}
 use Rattle.pim_ip.{specs.Ipv4.Packet}
-use Rattle.pim_types.{specs.declared.event.Event.Event}
-use Rattle.pim_model.{specs.{Cause.{done_as, packet_in}, Desires.join_desired, Full.source_is_full, Network.{At, Deliver, DeliverUnicast, Move, Network, Station, station_at}, Receivers.{local_receiver_exclude, local_receiver_include, local_receiver_star}, Sets.{assert_source, assert_star, is_loser, joins, joins_star, spt_bit}, State.{iface_count, is_own}, Tables.same_option, Unicast.{is_connected, is_rpf_interface, is_rpf_interface_rp, rpf_interface}}}
+use Rattle.pim_types.{specs.declared.{event.Event.Event, fact.Key.Key}}
+use Rattle.pim_model.{specs.{Cause.{done_as, packet_in}, Desires.join_desired, Full.source_is_full, Network.{At, Deliver, DeliverUnicast, Move, Network, Station, event_of, moved, station_at}, Receivers.{local_receiver_exclude, local_receiver_include, local_receiver_star}, Sets.{joins, joins_star, spt_bit}, State.is_own, Tables.{row_at, same_option}, Unicast.{is_connected, is_rpf_interface, is_rpf_interface_rp, rpf_interface}}}
 use Rattle.law_streams.{specs.Copies.happens}
-use Rattle.law_converges.{specs.{AloneOnLink.{AreMembers, HasNoHosts, IsMemberAt, IsUnjoined, TakesOn}, LinkDr.Member, MemberLinks.{HasNotLost, ReachesHosts}, SilentRouters.IsOnlyWayIn}, proofs.{Tested.{Found, both_true, each_found, found, if_so, lt_so, off_so, then}, WayTests.{one_on, one_on_so}}}
+use Rattle.law_converges.{proofs.Tested.{Found, both_true, each_found, found, happens_not, if_so, not_so, off_so, then}, specs.{AloneOnLink.{AreMembers, HasNoHosts, IsMemberAt, IsUnjoined, TakesOn}, Carried.EachMove, EachMember.{IsIncluded, TakesOnTree}, LinkDr.Member, SilentRouters.IsOnlyWayIn, Unheard.{HearsNone, hears_assert, is_over}}}
 
 -- ---- who is on a link
 
@@ -88,41 +88,34 @@ module _ (link : ℕ) (members : List Member) where
 -- ---- a router of it
 
 module _ (g src : ℕ) (x : Member) where
-  abbrev pub unlost_at : Network → Bool
-  unlost_at n =
-      option_map_or (λ (st : Station). nat_lt x.iface (iface_count st.state) && not (is_loser (assert_star st.state g x.iface)))
-      (station_at n x.router) false
+  -- it takes the source's packets on the group's tree
+  abbrev tree_station : Station → Bool
+  tree_station st =
+      not (is_own st.state src) && (not (spt_bit st.state g src && not (is_rpf_interface st.state src x.iface))
+      && not (source_is_full st.state g src))
 
-  pub unlost_so : (n : Network) → unlost_at n ≡ true → HasNotLost g x n
-  unlost_so n e =
-      let f : Found Station (λ (st : Station). nat_lt x.iface (iface_count st.state) && not (is_loser (assert_star st.state g x.iface))) (station_at n x.router) =
-      found Station _ (station_at n x.router) e in
-      then f.passes (λ within unlost. record { station = f.it; there = f.is; configured = lt_so _ _ within; unlost = off_so _ unlost })
+  abbrev pub tree_at : Network → Bool
+  tree_at n = option_map_or tree_station (station_at n x.router) false
 
-  module _ (up link : ℕ) where
-    abbrev reaches_station : Station → Bool
-    reaches_station st =
-        nat_lt up (iface_count st.state) && (not (is_own st.state src) && (not (spt_bit st.state g src && not (is_rpf_interface st.state src up))
-        && (not (source_is_full st.state g src) && (not (is_loser (assert_source st.state g src x.iface))
-        && (not (local_receiver_exclude st.state g src x.iface) && one_on x.iface link st)))))
+  pub tree_so : (n : Network) → tree_at n ≡ true → TakesOnTree g src x n
+  tree_so n e =
+      let f : Found Station tree_station (station_at n x.router) = found Station tree_station (station_at n x.router) e in
+      then f.passes (λ foreign e. then e (λ on_tree room. record {
+        station = f.it;
+        there = f.is;
+        foreign = off_so _ foreign;
+        on_tree = off_so _ on_tree;
+        room = off_so _ room;
+      }))
 
-    abbrev pub reaches_at : Network → Bool
-    reaches_at n = option_map_or reaches_station (station_at n x.router) false
+  -- no host there excludes the source
+  abbrev pub included_at : Network → Bool
+  included_at n = option_map_or (λ (st : Station). not (local_receiver_exclude st.state g src x.iface)) (station_at n x.router) false
 
-    pub reaches_so : (n : Network) → reaches_at n ≡ true → ReachesHosts g src up link x n
-    reaches_so n e =
-        let f : Found Station reaches_station (station_at n x.router) = found Station reaches_station (station_at n x.router) e in
-        then f.passes (λ within e. then e (λ foreign e. then e (λ shared e. then e (λ room e. then e (λ unlost e. then e (λ included one. record {
-          station = f.it;
-          there = f.is;
-          configured = lt_so _ _ within;
-          foreign = off_so _ foreign;
-          shared = off_so _ shared;
-          room = off_so _ room;
-          unlost = off_so _ unlost;
-          included = off_so _ included;
-          one = one_on_so x.iface link f.it one;
-        }))))))
+  pub included_so : (n : Network) → included_at n ≡ true → IsIncluded g src x n
+  included_so n e =
+      let f : Found Station _ (station_at n x.router) = found Station (λ (st : Station). not (local_receiver_exclude st.state g src x.iface)) (station_at n x.router) e in
+      record { station = f.it; there = f.is; included = off_so _ f.passes }
 
   -- nobody joined over it there, and no host there asks
   abbrev unasked_station : Station → Bool
@@ -192,6 +185,62 @@ module _ (g src : ℕ) (x : Member) where
         there = f.is;
         only = to_source_so f.it (has_no_other_way f.it) refl rest to_rp;
       })
+
+-- ---- Asserts
+
+-- no Assert that one of some machines may read comes to a router by the move
+abbrev pub none_heard : ℕ → List Key → Network → Move → Bool
+none_heard r ks n m = happens_not r (λ s a. list_any (λ k. hears_assert k a) ks) n m
+
+-- and none of them has lost one to begin with
+abbrev pub all_over : ℕ → List Key → Network → Bool
+all_over r ks n = option_map_or (λ (st : Station). list_all (λ k. is_over 0 (row_at (st.state).asserts k)) ks) (station_at n r) false
+
+pub record EachHeard (r : ℕ) (ks : List Key) (n : Network) (ms : List Move) : Type 0 where
+  pub over : all_over r ks n ≡ true
+  pub moves : EachMove (λ n m. none_heard r ks n m ≡ true) n ms
+
+abbrev pub IsKey : List Key → Key → Type 0
+IsKey [] k = ⊥
+IsKey (j ∷ js) k = (j ≡ k) ⊎ IsKey js k
+
+none_of : (p : Key → Bool) (ks : List Key) (k : Key) → list_any p ks ≡ false → IsKey ks k → p k ≡ false
+none_of p [] k off none = absurd none
+none_of p (j ∷ js) k off (inl same) = subst (λ (q : Key). p q ≡ false) same (or_first (p j) _ off)
+  where
+    or_first : (a b : Bool) → (a || b) ≡ false → a ≡ false
+    or_first a b e = grind (arith, e)
+none_of p (j ∷ js) k off (inr later) = none_of p js k (or_later (p j) _ off) later
+  where
+    or_later : (a b : Bool) → (a || b) ≡ false → b ≡ false
+    or_later a b e = grind (arith, e)
+
+all_of : (p : Key → Bool) (ks : List Key) (k : Key) → list_all p ks ≡ true → IsKey ks k → p k ≡ true
+all_of p [] k e none = absurd none
+all_of p (j ∷ js) k e (inl same) = subst (λ (q : Key). p q ≡ true) same (then e (λ a b. a))
+all_of p (j ∷ js) k e (inr later) = all_of p js k (then e (λ a b. b)) later
+
+pub heard_none : (bound : ℕ) (started : ℕ → ℕ) (r : ℕ) (ks : List Key) (n : Network) (ms : List Move) → EachHeard r ks n ms → (k : Key) → IsKey ks k
+    → 0 + started r ≤ bound → HearsNone k bound started r n ms
+heard_none bound started r ks n ms f k is by =
+    let s : Found Station _ (station_at n r) = found Station (λ (st : Station). list_all (λ k. is_over 0 (row_at (st.state).asserts k)) ks) (station_at n r) f.over in record {
+      none = each_more ms n f.moves;
+      station = s.it;
+      there = s.is;
+      until = 0;
+      over = all_of (λ k. is_over 0 (row_at ((s.it).state).asserts k)) ks k s.passes is;
+      by = by;
+    }
+  where
+    each_more : (ms : List Move) (n : Network) → EachMove (λ n m. none_heard r ks n m ≡ true) n ms
+        → EachMove (λ n m. (e : Event) (st : Station) → event_of n m ≡ Some (r, e) → station_at n r ≡ Some st
+        → hears_assert k (done_as (happens st.state e)) ≡ false) n ms
+    each_more [] n e = tt
+    each_more (m ∷ ms) n e = (
+      λ x st ev at. none_of (λ k. hears_assert k (done_as (happens st.state x))) ks k
+          (not_so r (λ s a. list_any (λ k. hears_assert k a) ks) n m e.0 x st ev at) is,
+      each_more ms (moved n m).1 e.1,
+    )
 
 -- ---- a move
 

@@ -1,7 +1,7 @@
 -- A packet leaves on no interface that isn't on its list; and what the facts that it renews leave alone.
 use Rattle.std.{proofs.Common.{◌≡◌, ◌∙◌, ℕ, ◌==◌, Bool, true, false, List, Some, refl, sym, ap, subst, arith, eqb-true}, specs.List.{AllByRecursion, Contains}}
 use Rattle.pim_ip.{specs.Ipv4.Packet}
-use Rattle.pim_types.{specs.declared.{config.{IfaceId.IfaceId, Route.Route, RpRange.RpRange}, event.Event.Event, fact.{AssertRow.AssertRow, DownstreamRow.DownstreamRow, GroupRecordRow.GroupRecordRow, InterfaceRow.InterfaceRow, NeighbourRow.NeighbourRow, SourceRecordRow.SourceRecordRow}, outcome.Emission.Emission}}
+use Rattle.pim_types.{specs.declared.{config.{IfaceId.IfaceId, Route.Route, RpTable.RpTable}, event.Event.Event, fact.{AssertRow.AssertRow, DownstreamRow.DownstreamRow, GroupRecordRow.GroupRecordRow, InterfaceRow.InterfaceRow, NeighbourRow.NeighbourRow, SourceRecordRow.SourceRecordRow}, outcome.Emission.Emission}}
 use Rattle.pim_model.{specs.{declared.accepted.Accepted.Accepted, Asserts.with_spt_bit, Cause.{copies_in, done_as}, Forwarding.{Forwarded, source_here, source_joined, spt_updated}, Registers.{settle_register, with_keepalive}, State.{Addressing, State}, Step.{Answered, change, done, outcome_of, packet_forwarded}, Tables.Table, Writing.on_link}}
 use Rattle.law_settled.{proofs.ListLaws.{each_map, each_more}}
 use Rattle.law_streams.{specs.{Copies.{copies_at, happens}, Joins.is_time, Served.renewed}, proofs.{Leaves.taken_is_done, Links.{each_contained, on_each}, Made.{Configured, Made, packet_made, step_taken}}}
@@ -54,7 +54,7 @@ pub record Kept : Type 0 where
   pub configured : Addressing
   pub interfaces : Table InterfaceRow
   pub routes : List Route
-  pub ranges : List RpRange
+  pub ranges : RpTable
   pub neighbours : Table NeighbourRow
   pub asserts : Table AssertRow
   pub downstream : Table DownstreamRow

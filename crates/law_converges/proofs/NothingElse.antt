@@ -1,10 +1,10 @@
 -- Nothing of a source is on the last link of a way but what comes down the way.
-use Rattle.std.{proofs.{Common.{◌≡◌, ◌∙◌, ℕ, zero, suc, ◌<◌, ◌≤◌, ◌==◌, ◌&&◌, nat_lt, Bool, true, false, cond, List, [], ◌∷◌, ◌++◌, length, map, ◌⊎◌, inl, inr, Option, Some, None, is_some, Ok, refl, sym, ap, subst, arith, eqb-true}, lemmas.{Bool.Decides.nat_tests, List.Elements.recursion_from_All}}, specs.{List.{AllByRecursion, Contains}, Prelude.{option_and_then, slice_get}}}
+use Rattle.std.{proofs.{Common.{Bool, List, None, Ok, Option, Some, [], ap, arith, cond, eqb-true, false, inl, inr, is_some, length, map, nat_lt, refl, subst, suc, sym, true, zero, ℕ, ◌&&◌, ◌++◌, ◌<◌, ◌==◌, ◌∙◌, ◌∷◌, ◌≡◌, ◌≤◌, ◌⊎◌}, lemmas.{Bool.Decides.nat_tests, List.Elements.recursion_from_All}}, specs.{List.{AllByRecursion, Contains}, Prelude.{option_and_then, slice_get}}}
 use Rattle.pim_ip.{specs.{Ipv4.{Packet, copy_text, ipv4_reading, is_link_local, protocol_igmp}, View.copied}}
 use Rattle.pim_types.{specs.declared.{event.{Event.Event, EventKind.EventKind}, outcome.Emission.Emission}}
-use Rattle.pim_model.{specs.{Cause.{done_as, packet_in}, Network.{Deliver, Move, Network, Sent, Station, event_of, frame_at, frame_event, is_on_frame_link, moved, moved_at, network_ran, sent_by, station_at, stepped}, Step.step, Tables.same_option, Writing.{on_link}}}
-use Rattle.law_streams.{specs.{Brought.{BringsPacket, InRegister, OnLink}, Copies.{copies_at, happens}, Data.{IsOfAKind}, InTimeJoins.Always}, proofs.{Brought.packet_comes_from_event, Climbing.frames_stay, Copies.each_emission_is_of_a_kind, Forwards.copy_reads_lower, Pairs.{frame_stays, same_station}}}
-use Rattle.law_converges.{specs.{Carried.EachMove, ComesOnce.{AllCameDown, AreAlone, AreAlonePast, AreForwarding, CameDown, ComesOf, Forwarder, Forwards, FrameComesOfOne, HoldsPastOn, IsAlone, IsCopied, IsFromAbove, IsOfSource, IsPassedOn, NothingElseComes, Root, SomeMove, TakesFromAbove}, Past.{ArePast, HoldsPast}}, proofs.{ComesOnce.{always_more, from_then_on, past_then}, LinkRptOrder.{Got, got_below, none_behind, there_is}, OneCopy.{Behind, behind, isnt_message, isnt_register}, TakesOver.moved_so}}
+use Rattle.pim_model.{specs.{Cause.{done_as, packet_in}, Network.{Deliver, Move, Network, Sent, Station, event_of, frame_at, frame_event, is_on_frame_link, moved, moved_at, network_ran, sent_by, station_at, stepped}, Step.step, Tables.same_option, Writing.on_link}}
+use Rattle.law_streams.{proofs.{Brought.packet_comes_from_event, Climbing.frames_stay, Copies.each_emission_is_of_a_kind, Forwards.copy_reads_lower, Pairs.{frame_stays, same_station}, Shared.{Got, got_below, none_behind}}, specs.{Brought.{BringsPacket, InRegister, OnLink}, Copies.{copies_at, happens}, Data.IsOfAKind, InTimeJoins.Always}}
+use Rattle.law_converges.{proofs.{LinkDr.always_more, LinkRptOrder.there_is, OneCopy.{Behind, behind, isnt_message, isnt_register}, Past.{from_then_on, past_then}, TakesOver.moved_so}, specs.{Carried.EachMove, ComesOnce.{AllCameDown, AreAlone, AreAlonePast, AreForwarding, CameDown, ComesOf, Forwarder, Forwards, FrameComesOfOne, IsAlone, IsCopied, IsFromAbove, IsOfSource, IsPassedOn, NothingElseComes, Root, SomeMove, TakesFromAbove}, Past.{ArePast, HoldsPast, HoldsPastOn}}}
 
 contradicts : true ≡ false → ⊥
 contradicts e = cc e

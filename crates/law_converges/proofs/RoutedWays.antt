@@ -1,9 +1,9 @@
 -- A way that follows the routes is joined by the bound, and so forwards the packets as any way does.
-use Rattle.std.{proofs.Common.{◌≡◌, ◌∙◌, ℕ, ◌<◌, ◌==◌, true, false, List, [], ◌∷◌, map, Option, Some, option_map, refl, sym, ap, subst, eq-eqb}, specs.{List.AllByRecursion, Prelude.slice_get}}
+use Rattle.std.{proofs.Common.{List, Option, Some, [], ap, arith, eq-eqb, false, map, option_map, subst, true, ℕ, ◌*◌, ◌+◌, ◌<◌, ◌∙◌, ◌∷◌, ◌≡◌, ◌≤◌}, specs.{List.AllByRecursion, Prelude.slice_get}}
 use Rattle.pim_types.{specs.declared.path.Path.Path}
 use Rattle.pim_model.{specs.{Network.{Move, Network, Station, station_at}, Sets.{assert_source, assert_star, is_loser, prunes}, State.{iface_count, is_up}, Tables.{hop_at, same_option}, Unicast.{is_rpf_interface_rp, rp_route, rpf_interface_rp}}}
-use Rattle.law_streams.{specs.InTimeJoins.{AreThere, IsHeld, IsJoin, IsUnlost, Star}, proofs.Pairs.same_station}
-use Rattle.law_converges.{specs.{Carried.{Arrivals, EachMove, Traffic}, CarriedNetwork.{HopIsQuiet, HopOn, HopsAreQuiet, IsQuietPlan, Lan, LanIsQuiet, Plan, number_of}, CarriedWays.{AreOnTree, IsClear, forwarders, pair_on, root_of}, ComesOnce.{AllCameDown, AreAlonePast, AreForwarding, AreServedOnce, Forwarder, Forwards, HoldsPastOn, sender_of}, LinkDr.{Member, Stands}, Past.HoldsPast, PassedOnce.IsOnTree, RoutedWays.{AreFree, EveryWantIsServedOnce, IsFree, NextHopsAreOnTree, PassesDown, TakesIn}}, proofs.{CarriedNetwork.one_lan, CarriedWays.{all_hear, hears, its_lan, sender_apart, way_past}, ComesOnce.each_packet_comes_once, NothingElse.nothing_else_comes, Past.{both_past, same_past, throughout_past}, RoutesToRp.{AreJoined, IsOver, all_meet, are_joined, next_path, within}}}
+use Rattle.law_streams.{proofs.Pairs.same_station, specs.InTimeJoins.{AreThere, IsHeld, IsJoin, IsUnlost, Star}}
+use Rattle.law_converges.{proofs.{CarriedNetwork.one_lan, CarriedWays.{HopStands, HopsStand, none_besides, served_once, stand_later}, Past.{both_past, same_past, throughout_past}, RoutesToRp.{AreJoined, IsOver, all_meet, are_joined, next_path, within}}, specs.{Carried.{Arrivals, EachMove, Traffic}, CarriedNetwork.{HopOn, IsQuietPlan, Lan, LanIsQuiet, Plan, number_of}, CarriedWays.{AreOnTree, IsClear, forwarders, pair_on, root_of}, ComesOnce.{AllCameDown, AreAlonePast, AreServedOnce, Forwarder}, JoinedWays.a_hop, LinkDr.Stands, PassedOnce.IsOnTree, Past.{HoldsPast, HoldsPastOn}, RoutedWays.{AreFree, EveryWantIsServedOnce, IsFree, PassesDown, TakesIn}}}
 
 -- ---- at one network: what the routes and the LANs say of a next hop
 
@@ -65,34 +65,34 @@ module _ (g src rp : ℕ) (h : HopOn) (n : Network) (there : AreThere (Star rp) 
         its : (clear).station ≡ takes.station
         its = same_station (clear).there takes.there
 
--- ---- from the bound on
+-- ---- from a limit on
 
 module _ (g src rp d late bound limit : ℕ) (started : ℕ → ℕ) (t : Traffic) (came : Arrivals) (lans : List Lan) (n : Network) (ms : List Move)
     (quiet : AllByRecursion (LanIsQuiet d late bound started t came n ms) lans) where
   abbrev PastIt : (Network → Type 0) → Type 0
   PastIt P = HoldsPast started limit P n ms
 
+  abbrev Hop : HopOn → Type 0
+  Hop h = HopStands (Star rp) g limit started lans n ms h
+
   abbrev Routed : HopOn → Network → Type 0
   Routed h x = AreThere (Star rp) g (pair_on h) x × IsUnlost (Star rp) g (pair_on h) x
 
-  routed : (h : HopOn) → HopIsQuiet (Star rp) g t lans n ms h → PastIt (Routed h)
+  routed : (h : HopOn) → Hop h → PastIt (Routed h)
   routed h q =
-      both_past started limit (AreThere (Star rp) g (pair_on h)) (IsUnlost (Star rp) g (pair_on h)) (Routed h) (λ x a b. (a, b)) ms n
-      (throughout_past started limit (AreThere (Star rp) g (pair_on h)) ms n q.there)
-      (throughout_past started limit (IsUnlost (Star rp) g (pair_on h)) ms n q.unlost)
+      both_past started limit (AreThere (Star rp) g (pair_on h)) (IsUnlost (Star rp) g (pair_on h)) (Routed h) (λ x a b. (a, b)) ms n q.there q.unlost
 
   abbrev Above : HopOn → Network → Type 0
   Above k x = AreThere (Star rp) g (pair_on k) x × Stands (number_of k.lan) k.lower x
 
-  above_past : (k : HopOn) → HopIsQuiet (Star rp) g t lans n ms k → PastIt (Above k)
+  above_past : (k : HopOn) → Hop k → PastIt (Above k)
   above_past k q =
-      both_past started limit (AreThere (Star rp) g (pair_on k)) (Stands (number_of k.lan) k.lower) (Above k) (λ x a b. (a, b)) ms n
-      (throughout_past started limit (AreThere (Star rp) g (pair_on k)) ms n q.there)
+      both_past started limit (AreThere (Star rp) g (pair_on k)) (Stands (number_of k.lan) k.lower) (Above k) (λ x a b. (a, b)) ms n q.there
       (throughout_past started limit (Stands (number_of k.lan) k.lower) ms n
       (((one_lan (LanIsQuiet d late bound started t came n ms) lans k.lan quiet q.among).meet).stand k.lower (q.on).lower))
 
   -- the next hops are on the group's tree
-  tree_past : (h : HopOn) (hs : List HopOn) → HopIsQuiet (Star rp) g t lans n ms h → HopsAreQuiet (Star rp) g t lans n ms (h.upper).router hs
+  pub tree_past : (h : HopOn) (hs : List HopOn) → Hop h → HopsStand (Star rp) g limit started lans n ms (h.upper).router hs
       → PastIt (AreFree g src h hs) → PastIt (AreOnTree g src h hs)
   tree_past h [] q rest free =
       both_past started limit (Routed h) (IsFree g src h) (AreOnTree g src h []) (λ x a f. clear g src rp h x a.0 a.1 f) ms n (routed h q) free
@@ -109,52 +109,40 @@ module _ (g src rp d late bound limit : ℕ) (started : ℕ → ℕ) (t : Traffi
       (λ x a b. (a, b)) ms n free
       (tree_past k ks rest.1 rest.2 (same_past started limit (AreFree g src h (k ∷ ks)) (AreFree g src k ks) (λ x a. a.2) ms n free)))
 
-pub next_hops_are_on_tree : NextHopsAreOnTree
-next_hops_are_on_tree g src rp d late bound limit started t came lans n ms h hs quiet hops free =
-    tree_past g src rp d late bound limit started t came lans n ms quiet h hs hops.1 hops.2 free
-
 -- ---- a way
 
-module _ (g src rp d late lag bound : ℕ) (started : ℕ → ℕ) (t : Traffic) (came : Arrivals) (plan : Plan) (n : Network) (ms : List Move) (r : ℕ)
+module _ (g src rp d late lag bound limit : ℕ) (started : ℕ → ℕ) (t : Traffic) (came : Arrivals) (plan : Plan) (n : Network) (ms : List Move) (r : ℕ)
     (h : HopOn) (hs : List HopOn) (f : Forwarder) (q : IsQuietPlan d late lag bound started t came plan n ms) (addresses : IsJoin (Star rp) g)
-    (hops : HopsAreQuiet (Star rp) g t plan.lans n ms r (h ∷ hs))
-    (held : HoldsPast started bound (λ x. AllByRecursion (λ c. IsHeld (Star rp) g c x) (map pair_on (h ∷ hs))) n ms)
-    (p : PassesDown g src started bound n ms h hs f) where
-  apart : (sender_of (root_of h hs) (forwarders h hs) == (f.self).router) ≡ false
-  apart =
-      subst (λ (y : Member). (sender_of (root_of h hs) (forwarders h hs) == y.router) ≡ false) (sym p.self)
-      (sender_apart g src rp d late bound bound started t came plan.lans n ms q.lans h hs hops.1 hops.2)
+    (stand : HopsStand (Star rp) g limit started plan.lans n ms r (h ∷ hs))
+    (held : HoldsPast started limit (λ x. AllByRecursion (λ c. IsHeld (Star rp) g c x) (map pair_on (h ∷ hs))) n ms)
+    (p : PassesDown g src started limit n ms h hs f) where
+  tree : HoldsPast started limit (AreOnTree g src h hs) n ms
+  tree = tree_past g src rp d late bound limit started t came plan.lans n ms q.lans h hs stand.1 stand.2 p.free
 
-  all_forward : HoldsPast started bound (AreForwarding g src (root_of h hs) f.below (f ∷ forwarders h hs)) n ms
-  all_forward =
-      both_past started bound (Forwards g src f) (AreForwarding g src (root_of h hs) (number_of h.lan) (forwarders h hs))
-      (AreForwarding g src (root_of h hs) f.below (f ∷ forwarders h hs))
-      (λ x a b. (refl, a, apart, subst (λ (l : ℕ). AreForwarding g src (root_of h hs) l (forwarders h hs) x) (sym p.above) b)) ms n p.passes
-      (way_past g src rp d late bound bound started t came plan.lans n ms q.lans h hs hops.1 hops.2 held
-      (tree_past g src rp d late bound bound started t came plan.lans n ms q.lans h hs hops.1 hops.2 p.free))
+  once : HoldsPastOn started limit (AreServedOnce g src d started t (root_of h hs) f.below (f ∷ forwarders h hs)) n ms
+  once =
+      served_once g src rp d late bound limit started t came plan.lans n ms q.lans h hs f r addresses stand p.self p.above held tree p.passes
 
-  served_once : HoldsPastOn started bound (AreServedOnce g src d started t (root_of h hs) f.below (f ∷ forwarders h hs)) n ms
-  served_once =
-      each_packet_comes_once g src d bound started t came (root_of h hs) f.below (f ∷ forwarders h hs) n ms addresses.multicast
-      addresses.goes_far ((its_lan g src rp d late bound bound started t came plan.lans n ms q.lans h hops.1).carried).sent (
-        hears g src rp d late bound bound started t came plan.lans n ms q.lans h hops.1 f p.self p.above,
-        all_hear g src rp d late bound bound started t came plan.lans n ms q.lans h hs hops.2,
-      )
-      all_forward
-
-  none_besides : EachMove (AreAlonePast g src started bound (root_of h hs) f.below (f ∷ forwarders h hs)) n ms
-      → HoldsPastOn started bound (AllCameDown g src (root_of h hs) f.below (f ∷ forwarders h hs)) n ms
-  none_besides alone =
-      nothing_else_comes g src bound started (root_of h hs) f.below (f ∷ forwarders h hs) n ms addresses.goes_far all_forward alone
+  nothing_else : EachMove (AreAlonePast g src started limit (root_of h hs) f.below (f ∷ forwarders h hs)) n ms
+      → HoldsPastOn started limit (AllCameDown g src (root_of h hs) f.below (f ∷ forwarders h hs)) n ms
+  nothing_else alone =
+      none_besides g src rp d late bound limit started t came plan.lans n ms q.lans h hs f r addresses stand p.self p.above held tree p.passes alone
 
 pub every_want_is_served_once : EveryWantIsServedOnce
-every_want_is_served_once g rp d late lag bound started t came plan routing n ms r k q known lead all is wants h hs same = record {
-  served = λ src f p. served_once g src rp d late lag bound started t came plan n ms r h hs f q all.addresses (its).quiet (its).held p;
-  only = λ src f p. none_besides g src rp d late lag bound started t came plan n ms r h hs f q all.addresses (its).quiet (its).held p;
+every_want_is_served_once g rp d late lag bound limit started t came plan routing n ms r k q lead unlost all is wants h hs same = record {
+  served = λ src f p. once g src rp d late lag bound limit started t came plan n ms r h hs f q all.addresses stand (its).held p;
+  only = λ src f p. nothing_else g src rp d late lag bound limit started t came plan n ms r h hs f q all.addresses stand (its).held p;
 }
   where
-    its : AreJoined (Star rp) g started bound t plan.lans n ms r (h ∷ hs)
+    its : AreJoined (Star rp) g bound limit started plan.lans n ms r (h ∷ hs)
     its =
-        subst (λ (l : List HopOn). AreJoined (Star rp) g started bound t plan.lans n ms r l) same
-        (are_joined (Star rp) g d late lag bound started t came plan.lans routing n ms r k
-        (record { few = q.few; meet = all_meet d late bound started t came n ms plan.lans q.lans known; lead = lead }) all q.together is wants)
+        subst (λ (l : List HopOn). AreJoined (Star rp) g bound limit started plan.lans n ms r l) same
+        (are_joined (Star rp) g d late lag bound limit started t came plan.lans routing n ms r k
+        (record { few = q.few; meet = all_meet d late bound started t came n ms plan.lans q.lans; lead = lead; unlost = unlost }) all q.together is wants)
+
+    no_sooner : (b : ℕ) → bound + 3 * lag + d ≤ wants.first → wants.first + b ≤ limit → bound ≤ limit
+    no_sooner b e f = omega (arith, e, f)
+
+    stand : HopsStand (Star rp) g limit started plan.lans n ms r (h ∷ hs)
+    stand =
+        stand_later (Star rp) g bound limit started plan.lans n ms (no_sooner (k * a_hop d lag) wants.later wants.by) r (h ∷ hs) (its).stand

@@ -1,25 +1,9 @@
 -- The premises, computed by their tests.
-use Rattle.std.{proofs.Common.{◌≡◌, ℕ, zero, suc, List, [], map, true, Some, inl, inr, refl, arith, lit≤}, specs.List.AllByRecursion}
+use Rattle.std.{proofs.Common.{List, Some, [], arith, inl, inr, lit≤, map, refl, suc, true, zero, ℕ, ◌≡◌, ◌≤◌}, specs.List.AllByRecursion}
 use Rattle.pim_model.{specs.Network.{Move, Network, network_ran}}
 use Rattle.law_streams.{specs.{InTimeJoins.{Always, AreThere, IsHeld, IsUnlost, Wants}, Joins.join_packet}}
-use Rattle.pim_runs.{specs.{Base.rp, InTime.started, ServedChain.asked_group}, proofs.OnLiterals.machine_on_literals}
-use Rattle.law_converges.{specs.{CarriedNetwork.{AreOn, HopIsQuiet, IsOneLan, JoinIsQuiet, LanIsQuiet, WayIsQuiet, joining_on}, CarriedNetworkRun.{before, bound, farther_joins, farther_on_high, high_lan, lag, low_lan, moves, nearer_joins, nearer_on_high, none_came, plan, rp_on_high, soon, source_there, star, traffic, way}, CarriedWays.{AreOnTree, pair_on}, CarriedWaysRun.{its_hop, to_host}, JoinedWays.IsDue, Past.HoldsPast, RoutedWays.{IsFree, PassesDown}, RoutesToRp.{AllCanJoin, AreNeighbours, AreRouted, CanJoin, EndsAt, IsRouted, LeadsUp, RoutesLead, WantsThroughout, hops_up}, RoutesToRpRun.{FartherIsHeldToRp, FartherWayIsQuiet, NearerIsServedOnce, RoutesLeadOnPlan, farther_hop, hops_away, routing}, Settles.Joining}, proofs.{CarriedNetworkRun.plan_is_quiet, CarriedWaysRun.plan_is_open, JoinTests.{first_due, first_test, first_wants, near_of, near_test, unlost_of, unlost_test}, Past.same_past, RouteTests.{ends_at, ends_so, neighbours_so, neighbours_test, routed_so}, RoutedWays.every_want_is_served_once, RoutesToRp.{all_meet, both_always, every_want_is_held_to_rp, routed_way_is_quiet, routes_lead_to_rp}, Tested.{always_so, ends_past, past_so, past_test, run_test}}}
-
--- ---- neighbours
-
-low_neighbours : neighbours_test soon started before low_lan ≡ true
-unfolding machine_on_literals join_packet
-low_neighbours = refl
-
-high_neighbours : neighbours_test soon started before high_lan ≡ true
-unfolding machine_on_literals join_packet
-high_neighbours = refl
-
-are_neighbours : AllByRecursion (AreNeighbours soon started before) plan.lans
-are_neighbours = (
-  neighbours_so soon started before low_lan low_neighbours,
-  (neighbours_so soon started before high_lan high_neighbours, tt),
-)
+use Rattle.pim_runs.{proofs.OnLiterals.machine_on_literals, specs.{Base.rp, InTime.started, ServedChain.asked_group}}
+use Rattle.law_converges.{proofs.{CarriedNetworkRun.{on_high, plan_is_quiet}, CarriedTests.{each_move_so, move_test}, CarriedWaysRun.plan_is_open, JoinTests.{first_test, first_wants, near_of, near_test, unlost_of, unlost_test}, KeepsTests.{joiners_so, joiners_test}, LinkDr.always_more, Past.{later_past, same_past, throughout_past}, RouteTests.{ends_at, ends_so, none_lost_so, routed_so}, RoutedWays.every_want_is_served_once, RoutesToRp.{all_meet, both_always, every_want_is_held_to_rp, routes_lead_to_rp}, Tested.{always_so, ends_past, past_so, past_test, run_test}}, specs.{Carried.EachMove, CarriedNetwork.{AreOn, HopIsQuiet, IsOneLan, JoinIsQuiet, JoinOver, LanIsQuiet, WayIsQuiet, joining_on}, CarriedNetworkRun.{before, bound, farther_joins, farther_on_high, high_lan, lag, limit, moves, nearer_joins, nearer_on_high, none_came, plan, rp_on_high, soon, source_there, star, traffic, way}, CarriedWays.{AreOnTree, pair_on}, CarriedWaysRun.{its_hop, to_host}, ComesOnce.Forwards, Past.HoldsPast, RoutedWays.{IsFree, PassesDown}, RoutesToRp.{AllCanJoin, AreRouted, CanJoin, EndsAt, IsRouted, JoinIsOfLan, LeadsUp, NoneLost, RoutesLead, WantsFrom, hops_up}, RoutesToRpRun.{FartherIsHeldToRp, NearerIsServedOnce, RoutesLeadOnPlan, farther_hop, hops_away, routing}, Settles.{Joining, routers}}}
 
 -- ---- the routes
 
@@ -56,18 +40,31 @@ nearer_hop = ((((plan_is_quiet).ways).0).hops).1
 
 nearer_routed : Always (IsRouted star asked_group its_hop) before moves
 nearer_routed =
-    both_always (AreThere star asked_group (pair_on its_hop)) (IsUnlost star asked_group (pair_on its_hop)) (IsRouted star asked_group its_hop) (routed_so star asked_group its_hop) moves before
-    (nearer_quiet).there (nearer_hop).unlost
+    always_more (AreThere star asked_group (pair_on its_hop)) (IsRouted star asked_group its_hop) (routed_so star asked_group its_hop) moves before
+    (nearer_quiet).there
 
 farther_routed : Always (IsRouted star asked_group farther_hop) before moves
 farther_routed =
-    both_always (AreThere star asked_group (pair_on farther_hop)) (IsUnlost star asked_group (pair_on farther_hop)) (IsRouted star asked_group farther_hop) (routed_so star asked_group farther_hop)
-    moves before (farther_quiet).there (unlost_of soon bound started farther_joining before moves farther_unlost)
+    always_more (AreThere star asked_group (pair_on farther_hop)) (IsRouted star asked_group farther_hop) (routed_so star asked_group farther_hop)
+    moves before (farther_quiet).there
+
+nearer_none_lost : HoldsPast started bound (NoneLost star asked_group its_hop) before moves
+nearer_none_lost =
+    throughout_past started bound (NoneLost star asked_group its_hop) moves before
+    (both_always (AreThere star asked_group (pair_on its_hop)) (IsUnlost star asked_group (pair_on its_hop)) (NoneLost star asked_group its_hop)
+    (none_lost_so star asked_group its_hop) moves before (nearer_quiet).there (nearer_hop).unlost)
+
+farther_none_lost : HoldsPast started bound (NoneLost star asked_group farther_hop) before moves
+farther_none_lost =
+    throughout_past started bound (NoneLost star asked_group farther_hop) moves before
+    (both_always (AreThere star asked_group (pair_on farther_hop)) (IsUnlost star asked_group (pair_on farther_hop))
+    (NoneLost star asked_group farther_hop) (none_lost_so star asked_group farther_hop) moves before (farther_quiet).there
+    (unlost_of soon bound started farther_joining before moves farther_unlost))
 
 same_number : (a b : ℕ) → Some a ≡ Some b → a ≡ b
 same_number a b e = cc e
 
-none_there : {A : Type 0} (k : ℕ) → Some 0 ≡ Some (suc k) → A
+pub none_there : {A : Type 0} (k : ℕ) → Some 0 ≡ Some (suc k) → A
 none_there k e = let same : 0 ≡ suc k = same_number 0 (suc k) e in absurd (omega (arith, same))
 
 some_there : {A : Type 0} (k : ℕ) → Some (suc k) ≡ Some 0 → A
@@ -110,6 +107,13 @@ module _ (n : Network) (ms : List Move) where
   join_of f g (suc (suc zero)) k e = none_there k e
   join_of f g (suc (suc (suc r))) k e = cc e
 
+  lost_of : HoldsPast started bound (NoneLost star asked_group its_hop) n ms → HoldsPast started bound (NoneLost star asked_group farther_hop) n ms
+      → (r k : ℕ) → hops_away r ≡ Some (suc k) → HoldsPast started bound (NoneLost star asked_group (routing.next r)) n ms
+  lost_of f g zero k e = f
+  lost_of f g (suc zero) k e = g
+  lost_of f g (suc (suc zero)) k e = none_there k e
+  lost_of f g (suc (suc (suc r))) k e = cc e
+
 rp_ends : Always (EndsAt star asked_group 2) before moves
 rp_ends = always_so (ends_at rp 2) (λ n m next ms. true) (EndsAt star asked_group 2) (ends_so rp asked_group 2) moves before rp_there
 
@@ -119,78 +123,99 @@ lead = record {
   up = up_of before moves (nearer_quiet).on (farther_quiet).on nearer_routed farther_routed;
 }
 
+nearer_joiners : move_test (joiners_test soon bound started traffic (on_high nearer_joins) (routers (high_lan).link)) before moves ≡ true
+unfolding machine_on_literals join_packet
+nearer_joiners = refl
+
+farther_joiners : move_test (joiners_test soon bound started traffic (on_high farther_joins) (routers (high_lan).link)) before moves ≡ true
+unfolding machine_on_literals join_packet
+farther_joiners = refl
+
+joiners_of : (j : JoinOver) → move_test (joiners_test soon bound started traffic (on_high j) (routers (high_lan).link)) before moves ≡ true
+    → EachMove (JoinIsOfLan j.join j.group (routers (high_lan).link) (on_high j).pair) before moves
+joiners_of j e =
+    each_move_so (joiners_test soon bound started traffic (on_high j) (routers (high_lan).link))
+    (JoinIsOfLan j.join j.group (routers (high_lan).link) (on_high j).pair)
+    (joiners_so soon bound started traffic (on_high j) (routers (high_lan).link)) moves before e
+
 can_join : AllCanJoin star asked_group traffic routing before moves
 can_join = record {
   addresses = (nearer_quiet).addresses;
-  join = join_of before moves (record { near = (nearer_hop).near; keeps = (nearer_hop).keeps })
-      (record { near = near_of soon bound started farther_joining before farther_near; keeps = (farther_quiet).keeps });
+  join = join_of before moves
+      (record { near = (nearer_hop).near; keeps = (nearer_hop).keeps; joiners = joiners_of nearer_joins nearer_joiners })
+      (record {
+        near = near_of soon bound started farther_joining before farther_near;
+        keeps = (farther_quiet).keeps;
+        joiners = joiners_of farther_joins farther_joiners;
+      });
 }
 
-farther_wants : Always (Wants star asked_group 1) before moves
-farther_wants = first_wants soon bound started farther_joining before moves farther_first
-
-farther_due : IsDue star asked_group soon bound started 1 before
-farther_due = first_due soon bound started farther_joining before moves farther_first
-
-wants : WantsThroughout star asked_group soon lag started bound 1 1 before moves
-wants = record { wants = farther_wants; begin = bound; due = farther_due; by = lit≤ tt }
-
 pub routes_lead_on_plan : RoutesLeadOnPlan
-routes_lead_on_plan = (are_neighbours, lead, can_join, wants)
+routes_lead_on_plan = (lead, lost_of before moves nearer_none_lost farther_none_lost, can_join)
 
 -- ---- so there is a way
 
-end_is_past : past_test started (λ q r. refl) bound (network_ran before moves).1 ≡ true
+end_is_past : past_test started (λ q r. refl) limit (network_ran before moves).1 ≡ true
 unfolding machine_on_literals join_packet
 end_is_past = refl
 
-are_routed : AreRouted star asked_group soon soon started traffic none_came plan.lans routing before moves
+are_routed : AreRouted star asked_group soon soon bound started traffic none_came plan.lans routing before moves
 are_routed = record {
   few = (plan_is_quiet).few;
-  meet = all_meet soon soon bound started traffic none_came before moves plan.lans (plan_is_quiet).lans are_neighbours;
-  lead = lead;
+  meet = all_meet soon soon bound started traffic none_came before moves plan.lans (plan_is_quiet).lans;
+  lead = (routes_lead_on_plan).0;
+  unlost = (routes_lead_on_plan).1;
 }
 
-farther_held : HoldsPast started bound (λ o. AllByRecursion (λ c. IsHeld star asked_group c o) (map pair_on (hops_up routing 1 1))) before moves
+-- of any moves, so that none is computed here
+from_then : (r : ℕ) (n : Network) (ms : List Move) → Always (Wants star asked_group r) n ms → WantsFrom star asked_group soon lag started bound limit r 1 n ms
+from_then r n ms f = record {
+  first = 299850;
+  wants = throughout_past started 299850 (Wants star asked_group r) ms n f;
+  later = lit≤ tt;
+  by = lit≤ tt;
+}
+
+farther_wants : WantsFrom star asked_group soon lag started bound limit 1 1 before moves
+farther_wants = from_then 1 before moves (first_wants soon bound started farther_joining before moves farther_first)
+
+farther_held : HoldsPast started limit (λ o. AllByRecursion (λ c. IsHeld star asked_group c o) (map pair_on (hops_up routing 1 1))) before moves
 farther_held =
-    every_want_is_held_to_rp star asked_group soon soon lag bound started traffic none_came plan.lans routing before moves 1 1 are_routed can_join
-    (plan_is_quiet).together refl (inl wants)
+    every_want_is_held_to_rp star asked_group soon soon lag bound limit started traffic none_came plan.lans routing before moves 1 1 are_routed
+    (routes_lead_on_plan).2 (plan_is_quiet).together refl farther_wants
 
 pub farther_is_held_to_rp : FartherIsHeldToRp
 farther_is_held_to_rp = (
-  routes_lead_to_rp star asked_group soon soon started traffic none_came plan.lans routing before moves 1 1 are_routed refl,
+  farther_wants,
+  routes_lead_to_rp star asked_group soon soon bound started traffic none_came plan.lans routing before moves 1 1 are_routed refl,
   refl,
-  (ends_past started bound (λ o. AllByRecursion (λ c. IsHeld star asked_group c o) (map pair_on (hops_up routing 1 1))) _ _ before farther_held
-      (past_so started (λ q r. refl) bound (network_ran before moves).1 end_is_past)).0,
+  (ends_past started limit (λ o. AllByRecursion (λ c. IsHeld star asked_group c o) (map pair_on (hops_up routing 1 1))) _ _ before farther_held
+      (past_so started (λ q r. refl) limit (network_ran before moves).1 end_is_past)).0,
 )
-
-pub farther_way_is_quiet : FartherWayIsQuiet
-farther_way_is_quiet =
-    routed_way_is_quiet star asked_group soon soon lag bound started traffic none_came plan routing before moves 1 1 plan_is_quiet are_neighbours lead
-    can_join refl wants
 
 -- ---- down the first router's way
 
 given : WayIsQuiet soon lag bound started traffic plan.lans before moves way
 given = ((plan_is_quiet).ways).0
 
-passes_down : PassesDown asked_group source_there started bound before moves its_hop [] to_host
+no_sooner : bound ≤ limit
+no_sooner = lit≤ tt
+
+passes_down : PassesDown asked_group source_there started limit before moves its_hop [] to_host
 passes_down = record {
-  free = same_past started bound (AreOnTree asked_group source_there its_hop []) (IsFree asked_group source_there its_hop)
+  free = same_past started limit (AreOnTree asked_group source_there its_hop []) (IsFree asked_group source_there its_hop)
       (λ x c. record { station = c.station; there = c.there; unlost = c.source; unpruned = c.unpruned; single = (c.one).single }) moves before
-      ((plan_is_open).0).tree;
+      (later_past started limit bound no_sooner (AreOnTree asked_group source_there its_hop []) moves before ((plan_is_open).0).tree);
   self = refl;
   above = refl;
-  passes = ((plan_is_open).0).passes;
+  passes = later_past started limit bound no_sooner (Forwards asked_group source_there to_host) moves before ((plan_is_open).0).passes;
 }
-
-pub nearer_wants : WantsThroughout star asked_group soon lag started bound 0 1 before moves
-nearer_wants = record { wants = (given).wants; begin = (given).begin; due = (given).due; by = (given).by }
 
 pub nearer_is_served_once : NearerIsServedOnce
 nearer_is_served_once = (
   refl,
   passes_down,
-  (every_want_is_served_once asked_group rp soon soon lag bound started traffic none_came plan routing before moves 0 1 plan_is_quiet are_neighbours
-      lead can_join refl (inl nearer_wants) its_hop [] refl).served source_there to_host passes_down,
+  (every_want_is_served_once asked_group rp soon soon lag bound limit started traffic none_came plan routing before moves 0 1 plan_is_quiet
+      (routes_lead_on_plan).0 (routes_lead_on_plan).1 (routes_lead_on_plan).2 refl (from_then 0 before moves (given).wants) its_hop [] refl).served
+      source_there to_host passes_down,
 )

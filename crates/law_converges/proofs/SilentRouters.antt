@@ -4,7 +4,7 @@ use Rattle.pim_ip.{specs.{Ipv4.{Packet, frame_limit, ipv4_reading, is_link_local
 use Rattle.pim_types.{specs.{Keys.source_key, declared.{config.IfaceId.IfaceId, event.{Event.Event, EventKind.EventKind}, outcome.{Ignored.Ignored, Verdict.Verdict}, path.Path.Path}}}
 use Rattle.pim_wire.{specs.{Messages.pim_reading, Values.{Encapsulated, Register}, declared.view.PimView.PimView}}
 use Rattle.igmp_wire.{specs.{Messages.igmp_reading, declared.view.IgmpView.IgmpView}}
-use Rattle.pim_model.{specs.{declared.accepted.Accepted.Accepted, Cause.{done_as, if_done, packet_in}, Desires.join_desired, Forwarding.{Forwarded, forwarded, is_spt_reached, list_chosen, no_interface, register_at_rp, register_received, register_stop_to, source_here, source_joined, spt_updated, stray, watched}, Judging.{Judged, advance_judged, assert_judged, data_judged, down_judged, frame_judged, hello_judged, igmp_judged, igmp_message_judged, ignore_if, join_prune_judged, judged, of_read, packet_judged, pim_judged, pim_message_judged, pim_to_me_judged, refuse_if, register_judged, register_stop_judged, routes_judged, rps_judged, unicast_judged, unicast_packet_judged, up_judged, ◌>>◌}, Neighbours.is_dr, Receivers.{is_exclude, local_receiver_include}, Registers.{settle_register, with_keepalive}, Sets.{inherited_olist, inherited_olist_rpt, is_beaten, joins, joins_star, lost_assert, lost_assert_rpt, lost_assert_star, pim_exclude, pim_include, pim_include_star, prunes, serves, serves_star, spt_bit, spt_metric, tunnel}, State.{State, iface_count, is_own, is_up}, Step.{change, step}, Tables.same_option, Unicast.{is_connected, is_rp, is_rpf_interface, is_rpf_interface_rp, route, route_among, rp_of, rp_route, rpf_interface, rpf_interface_rp}, Writing.on_link}}
+use Rattle.pim_model.{specs.{declared.accepted.Accepted.Accepted, Cause.{done_as, if_done, packet_in}, Desires.join_desired, Forwarding.{Forwarded, forwarded, is_spt_reached, list_chosen, no_interface, register_at_rp, register_received, register_stop_to, source_here, source_joined, spt_updated, stray, watched}, Judging.{Judged, advance_judged, assert_judged, candidates_judged, data_judged, down_judged, frame_judged, hello_judged, igmp_judged, igmp_message_judged, ignore_if, join_prune_judged, judged, of_read, packet_judged, pim_judged, pim_message_judged, pim_to_me_judged, refuse_if, register_judged, register_stop_judged, routes_judged, rps_judged, unicast_judged, unicast_packet_judged, up_judged, ◌>>◌}, Neighbours.is_dr, Receivers.{is_exclude, local_receiver_include}, Registers.{settle_register, with_keepalive}, Sets.{inherited_olist, inherited_olist_rpt, is_beaten, joins, joins_star, lost_assert, lost_assert_rpt, lost_assert_star, pim_exclude, pim_include, pim_include_star, prunes, serves, serves_star, spt_bit, spt_metric, tunnel}, State.{State, iface_count, is_own, is_up}, Step.{change, step}, Tables.same_option, Unicast.{is_connected, is_rp, is_rpf_interface, is_rpf_interface_rp, route, route_among, rp_of, rp_route, rpf_interface, rpf_interface_rp}, Writing.on_link}}
 use Rattle.law_settled.{proofs.ListLaws.by_cond}
 use Rattle.law_streams.{specs.{Copies.{copies_at, happens}, Served.renewed}, proofs.Made.{forwarded_configured, register_configured}}
 use Rattle.law_converges.{specs.SilentRouters.{IsOffSourceTree, IsOnlyWayIn, OnlyWayInIsTaken, UnaskedSendsNone, is_asked_on}, proofs.NoCopy.{kept, no_copy, renewed_kept, with_kept}}
@@ -255,7 +255,7 @@ module _ (s : State) (kind : EventKind) where
       chosen (p.protocol == protocol_pim) _ _ (read_so (pim_reading p.payload) _ (λ m. to_me_so p m (not (is_own s p.destination)) refl)) refl
 
 none_astray : (s : State) (kind : EventKind) → is_astray s kind (judged s kind) ≡ false
-unfolding judged frame_judged unicast_judged advance_judged up_judged down_judged routes_judged rps_judged
+unfolding judged frame_judged unicast_judged advance_judged up_judged down_judged routes_judged rps_judged candidates_judged
 none_astray s (EventKind.Frame i bytes) =
     refused s (EventKind.Frame i bytes) (nat_le (iface_count s) i.number) Refusal.NoInterface
     (refuse_if (not (is_up s i.number)) Refusal.InterfaceDown

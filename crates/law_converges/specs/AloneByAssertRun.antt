@@ -9,7 +9,7 @@ abbrev pub heard : Network
 heard = (moved sent_again by_register).1
 
 abbrev pub hears_it : Move
-hears_it = Deliver 1 1 26 7
+hears_it = Deliver 1 1 56 7
 
 abbrev pub WinnerAloneOnPlan : Type 0
 WinnerAloneOnPlan =

@@ -5,7 +5,7 @@ use Rattle.pim_ip.{specs.Ipv4.Packet}
 use Rattle.pim_types.{specs.declared.event.Event.Event}
 use Rattle.pim_model.{specs.{Cause.{done_as, packet_in}, Network.{At, Move, Network, Station, event_of, station_at}, Receivers.{local_receiver_include, local_receiver_star}, Sets.{assert_source, assert_star, is_winner, joins, joins_star}}}
 use Rattle.law_streams.{specs.Copies.happens}
-use Rattle.law_converges.{specs.{AloneByAssert.IsAboutIt, Carried.{Arrivals, EachMove, Traffic}, CarriedNetwork.{Claim, HopOn, IsOneLan, IsQuietPlan, Lan, Plan, contest_on, number_of}, CarriedWays.{forwarders, root_of}, ComesOnce.{AllCameDown, Forwarder, HoldsPastOn, IsAlone}, LinkDr.{IsOne, Member, is_preferred}, MemberLinks.{IsOneClaim, IsOpenToMember, to_hosts}, Past.ArePast, Settles.routers, SilentRouters.IsOnlyWayIn}}
+use Rattle.law_converges.{specs.{AloneByAssert.IsAboutIt, Carried.{Arrivals, EachMove, Traffic}, CarriedNetwork.{Claim, HopOn, IsOneLan, IsQuietPlan, Lan, Plan, contest_on, number_of}, CarriedWays.forwarders, ComesOnce.{Forwarder, IsAlone}, LinkDr.{IsOne, Member, is_preferred}, MemberLinks.{IsOneClaim, to_hosts}, Past.ArePast, Settles.routers, SilentRouters.IsOnlyWayIn}}
 
 -- ---- the routers of a link
 
@@ -108,12 +108,3 @@ pub record ComesDownTheWay (g src : ℕ) (a : Lan) (x : Member) (h : HopOn) (hs 
   pub on_link : OthersSendNone g src a x.router n m
   pub on_way : OthersSendNoneOnWay g src h hs n m
   pub from_above : AllByRecursion (ComesFromAbove g src n m) (to_hosts a x h ∷ forwarders h hs)
-
--- So nothing else of the source is on a link with a member of the group.
-abbrev pub MemberLinkBringsNothingElse : Type 0
-MemberLinkBringsNothingElse = (g src rp d late lag bound limit : ℕ) (started : ℕ → ℕ) (t : Traffic) (came : Arrivals) (plan : Plan)
-    (n : Network) (ms : List Move) (a : Lan) (x : Member) (h : HopOn) (hs : List HopOn)
-    → IsQuietPlan d late lag bound started t came plan n ms → IsOpenToMember g src rp bound limit started t plan.lans n ms a x h hs
-    → AllByRecursion (λ (b : Lan). AreMembers (number_of b) (routers b.link) n) plan.lans
-    → EachMove (λ n m. ArePast started limit n → ComesDownTheWay g src a x h hs n m) n ms
-    → HoldsPastOn started limit (AllCameDown g src (root_of h hs) (number_of a) (to_hosts a x h ∷ forwarders h hs)) n ms

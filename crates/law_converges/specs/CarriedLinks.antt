@@ -90,9 +90,7 @@ pub record JoinKeeps (x : Join) (g : ℕ) (t : Traffic) (c : Pair) (n : Network)
       → station_at (moved n m).1 c.lower ≡ Some st → length n.frames < number
       → frame_at (moved n m).1 number ≡ Some (frame_of x g c pruned)
       → IsWritable c.from (c.hop).address.bits g (entry_of x) (prunes_of pruned)
-  -- the upper one can hear whoever joins over it, has room, and joins nothing over itself
-  pub hears : (number draw from : ℕ) (pruned : List ℕ) (st : Station) → is_unicast from ≡ true
-      → m ≡ Deliver c.upper c.down number draw → frame_at n number ≡ Some (frame_from x g c from pruned) → station_at n c.upper ≡ Some st → Hears st.state c.down from
+  -- the upper one has room for whoever joins over it, and joins nothing over itself
   pub room : (number draw from : ℕ) (pruned : List ℕ) (st : Station) → m ≡ Deliver c.upper c.down number draw
       → frame_at n number ≡ Some (frame_from x g c from pruned) → station_at n c.upper ≡ Some st
       → is_full st.state (Accepted.JoinPruneToMe (record { number = c.down })
@@ -105,6 +103,11 @@ pub record JoinKeeps (x : Join) (g : ℕ) (t : Traffic) (c : Pair) (n : Network)
   -- the lower one holds its own Join back for none but another's to the upper one
   pub shared : (e : Event) (st : Station) → event_of n m ≡ Some (c.lower, e) → station_at n c.lower ≡ Some st
       → is_suppressed x st.state g c.hop (done_as (happens st.state e)) ≡ true → SeesJoin x g c n m
+
+-- the upper one can hear whoever joins over it
+pub record HearsJoins (x : Join) (g : ℕ) (c : Pair) (n : Network) (m : Move) : Type 0 where
+  pub hears : (number draw from : ℕ) (pruned : List ℕ) (st : Station) → is_unicast from ≡ true
+      → m ≡ Deliver c.upper c.down number draw → frame_at n number ≡ Some (frame_from x g c from pruned) → station_at n c.upper ≡ Some st → Hears st.state c.down from
 
 -- ---- asserts
 

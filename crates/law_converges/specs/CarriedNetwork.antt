@@ -4,7 +4,7 @@ use Rattle.std.{specs.{List.{AllByRecursion, flat_map}, Prelude.{List, Some, [],
 use Rattle.pim_types.{specs.declared.fact.{AssertMetric.AssertMetric, JoinTimerRow.JoinTimerRow}}
 use Rattle.pim_model.{specs.{Network.{Move, Network, Station, station_at}, Tables.row_at}}
 use Rattle.law_streams.{specs.{Adjacent.most_late_hello, InTimeJoins.{Always, AreThere, IsJoin, IsUnlost, Join, Wants, join_key}}}
-use Rattle.law_converges.{specs.{Carried.{Arrivals, EachMove, IsCarried, Traffic}, CarriedLinks.{Ask, JoinKeeps, Meet, Yields, pair_of}, CarriedPrunes.{AreKnown, Wish, WishKeeps, wire_of}, JoinedWays.{AreTogether, IsDue, IsNear, a_hop}, LinkDr.{IsOne, Member, between}, LinkLosers.{AssertsBy, most_late_assert}, LinkMembers.AnswersInTime, LinkRptOrder.{Begins, IsOverridable}, OneSender.IsOffTree, Past.HoldsPast, Settles.{Contest, HasSettled, Joining, Layout, Link, Way, routers}}}
+use Rattle.law_converges.{specs.{Carried.{Arrivals, EachMove, IsCarried, Traffic}, CarriedLinks.{Ask, HearsJoins, JoinKeeps, Meet, Yields, pair_of}, CarriedPrunes.{AreKnown, Wish, WishKeeps, wire_of}, JoinedWays.{AreTogether, IsDue, IsNear, a_hop}, LinkDr.{IsOne, Member, between}, LinkLosers.{AssertsBy, most_late_assert}, LinkMembers.AnswersInTime, LinkRptOrder.{Begins, IsOverridable}, OneSender.IsOffTree, Past.HoldsPast, Settles.{Contest, HasSettled, Joining, Layout, Link, Way, routers}}}
 
 -- ---- what there is
 
@@ -96,6 +96,7 @@ pub record JoinIsQuiet (d bound : ℕ) (started : ℕ → ℕ) (t : Traffic) (n 
   pub on : AreOn a j.lower j.upper
   pub there : Always (AreThere j.join j.group (pair_of (number_of a) j.lower j.upper)) n ms
   pub keeps : EachMove (JoinKeeps j.join j.group t (pair_of (number_of a) j.lower j.upper)) n ms
+  pub hears : EachMove (HearsJoins j.join j.group (pair_of (number_of a) j.lower j.upper)) n ms
   pub wants : Always (Wants j.join j.group (j.lower).router) n ms
   pub station : Station
   pub is : station_at n (j.lower).router ≡ Some station
@@ -149,6 +150,7 @@ pub record HopIsQuiet (x : Join) (g : ℕ) (t : Traffic) (lans : List Lan) (n : 
   pub near : IsNear x g (h.lower).router n
   pub there : Always (AreThere x g (pair_of (number_of h.lan) h.lower h.upper)) n ms
   pub keeps : EachMove (JoinKeeps x g t (pair_of (number_of h.lan) h.lower h.upper)) n ms
+  pub hears : EachMove (HearsJoins x g (pair_of (number_of h.lan) h.lower h.upper)) n ms
   pub unlost : Always (IsUnlost x g (pair_of (number_of h.lan) h.lower h.upper)) n ms
 
 -- each next hop is the router of the next one

@@ -1,7 +1,7 @@
 -- Two LANs and the RP: two routers are on both, and would both send what a host of the first one asks for. One wins the assert; the
 -- other has a source and a host of its own, and prunes the source off the group's tree, which the first one overrides. Computed by the
 -- kernel.
-use Rattle.std.{specs.Prelude.{List, Some, [], true, if◌then◌else◌, length, nat_le, ℕ, ◌++◌, ◌==◌, ◌||◌, ◌∷◌, ◌≡◌}}
+use Rattle.std.{specs.{List.flat_map, Prelude.{List, Some, [], true, if◌then◌else◌, length, nat_le, slice_get, unwrap_or, ℕ, ◌+◌, ◌++◌, ◌-◌, ◌==◌, ◌∷◌, ◌≡◌}}}
 use Rattle.pim_ip.{specs.{Addr.addr, Ipv4.{all_pim_routers, header_text, igmp_packet_text, pim_packet_text}}}
 use Rattle.pim_types.{specs.declared.{config.Config.Config, event.Event.Event, fact.AssertMetric.AssertMetric}}
 use Rattle.pim_wire.{specs.{JoinPrunes.join_prune_text, Registers.register_text, declared.join_prune.EntryKind.EntryKind}}
@@ -81,7 +81,7 @@ nearer_before =
 
 abbrev pub farther_before : List Event
 farther_before =
-    up 7 0 ∷ up 7 1 ∷ up 7 2 ∷ up 7 3 ∷ advance 91000 ∷ farther_meets ++ frame 0 (hello_from gone) ∷ answer_on 0 (address 10 0 1 9)
+    up 7 0 ∷ up 7 1 ∷ up 1000 2 ∷ up 1000 3 ∷ advance 91000 ∷ farther_meets ++ frame 0 (hello_from gone) ∷ answer_on 0 (address 10 0 1 9)
     ∷ answer_on 2 (address 10 0 4 9) ∷ frame 0 claims_it ∷ advance 180000 ∷ farther_meets ++ advance 267900 ∷ []
 
 abbrev pub rp_before : List Event
@@ -106,23 +106,43 @@ source_sends = frame 3 (header_text [] 16 17 source_there asked_group (length co
 -- a packet, the second router prunes it, and the first one overrides that after a second. The host answers the queries.
 abbrev pub settling : List Move
 settling =
-    all_to 268000 ++ (Deliver 1 0 1 7 ∷ Deliver 0 0 2 7 ∷ Deliver 1 0 3 7 ∷ At 1 (advance 270008) ∷ [])
+    all_to 268000 ++ (Deliver 1 0 1 7 ∷ Deliver 0 0 2 7 ∷ Deliver 1 0 3 7 ∷ [])
     ++ all_to 271001
-    ++ (Deliver 1 1 6 7 ∷ Deliver 2 0 6 7 ∷ Deliver 1 0 7 7 ∷ Deliver 1 1 8 7 ∷ Deliver 2 0 8 7 ∷ Deliver 0 1 9 7 ∷ Deliver 2 0 9 7
-    ∷ Deliver 0 0 10 7 ∷ Deliver 0 1 11 7 ∷ Deliver 2 0 11 7 ∷ Deliver 0 1 12 7 ∷ Deliver 1 1 12 7 ∷ [])
+    ++ (Deliver 1 1 4 8000 ∷ Deliver 2 0 4 7 ∷ Deliver 1 0 5 7 ∷ Deliver 1 1 6 7 ∷ Deliver 2 0 6 7 ∷ Deliver 0 1 7 7 ∷ Deliver 2 0 7 7
+    ∷ Deliver 0 0 8 7 ∷ Deliver 0 1 9 7 ∷ Deliver 2 0 9 7 ∷ Deliver 0 1 12 7 ∷ Deliver 1 1 12 7 ∷ [])
     ++ all_to 271500 ++ (At 1 source_sends ∷ Deliver 0 1 13 999 ∷ Deliver 2 0 13 7 ∷ [])
     ++ all_to 272500 ++ (Deliver 1 1 16 7 ∷ Deliver 2 0 16 7 ∷ [])
-    ++ all_to 281250
+    ++ all_to 278000 ++ all_to 281250
     ++ (Deliver 1 0 17 7 ∷ Deliver 1 1 18 7 ∷ Deliver 2 0 18 7 ∷ Deliver 0 0 19 7 ∷ Deliver 0 1 20 7 ∷ Deliver 2 0 20 7 ∷ Deliver 0 1 23 7
     ∷ Deliver 1 1 23 7 ∷ At 0 (answer_on 0 (address 10 0 1 9)) ∷ At 1 (answer_on 0 (address 10 0 1 9))
     ∷ At 1 (answer_on 2 (address 10 0 4 9)) ∷ [])
     ++ all_to 281451
 
+-- From then on only time passes, until a hop later. Hellos come to all, from a frame on, and the first router's Joins, for which the second
+-- one holds its own back.
+abbrev pub greets : ℕ → List Move
+greets k =
+    Deliver 1 0 k 7 ∷ Deliver 1 1 (k + 1) 7 ∷ Deliver 2 0 (k + 1) 7 ∷ Deliver 0 0 (k + 2) 7 ∷ Deliver 0 1 (k + 3) 7 ∷ Deliver 2 0 (k + 3) 7
+    ∷ Deliver 0 1 (k + 6) 7 ∷ Deliver 1 1 (k + 6) 7 ∷ []
+
+abbrev pub joins : ℕ → List Move
+joins k = Deliver 1 1 k 17000 ∷ Deliver 2 0 k 7 ∷ []
+
+abbrev pub waiting : List Move
+waiting =
+    flat_map all_to (287000 ∷ 293000 ∷ 299000 ∷ 301001 ∷ []) ++ greets 24
+    ++ flat_map all_to (307000 ∷ 313000 ∷ 319000 ∷ 325000 ∷ 331001 ∷ []) ++ greets 31
+    ++ all_to 331500 ++ all_to 337008 ++ joins 38
+    ++ flat_map all_to (343000 ∷ 349000 ∷ 355000 ∷ 361001 ∷ []) ++ greets 39
+    ++ flat_map all_to (367000 ∷ 373000 ∷ 379000 ∷ 385000 ∷ 391001 ∷ []) ++ greets 46
+    ++ all_to 391500 ++ all_to 397008 ++ joins 53
+    ++ all_to 402351
+
 -- Then the source sends another packet. The second router's Register brings it to the RP, which sends it on the second LAN, and the first
 -- router on the first one. A Register of another router brings the RP a packet of a source far away, which the second router sends to its
 -- host, too.
 abbrev pub by_register : Move
-by_register = DeliverUnicast 2 25 7
+by_register = DeliverUnicast 2 55 7
 
 abbrev pub far_source : ℕ
 far_source = address 10 8 0 9
@@ -134,19 +154,28 @@ far_register =
 
 abbrev pub serving : List Move
 serving =
-    Deliver 0 1 26 7 ∷ Deliver 1 1 26 7 ∷ Deliver 1 0 27 7 ∷ all_to 281552
-    ++ (At 2 (unicast far_register) ∷ Deliver 0 1 28 7 ∷ Deliver 1 1 28 7 ∷ Deliver 1 0 29 7 ∷ all_to 281653)
+    Deliver 0 1 56 7 ∷ Deliver 1 1 56 7 ∷ Deliver 1 0 57 7 ∷ all_to 402452
+    ++ (At 2 (unicast far_register) ∷ Deliver 0 1 58 7 ∷ Deliver 1 1 58 7 ∷ Deliver 1 0 59 7 ∷ all_to 402553)
+
+abbrev pub until_then : List Move
+until_then = settling ++ waiting
 
 abbrev pub moves : List Move
-moves = settling ++ At 1 source_sends ∷ by_register ∷ serving
+moves = until_then ++ At 1 source_sends ∷ by_register ∷ serving
 
 -- when each frame was sent, and by whom
+abbrev pub senders : List ℕ
+senders =
+    0 ∷ 1 ∷ 0 ∷ 0 ∷ 0 ∷ 0 ∷ 1 ∷ 1 ∷ 1 ∷ 1 ∷ 1 ∷ 2 ∷ 1 ∷ 1 ∷ 1 ∷ 0 ∷ 0 ∷ 0 ∷ 1 ∷ 1 ∷ 1 ∷ 1 ∷ 2 ∷ 0 ∷ 0 ∷ 1 ∷ 1 ∷ 1 ∷ 1 ∷ 2 ∷ 0 ∷ 0 ∷ 1 ∷ 1 ∷ 1
+    ∷ 1 ∷ 2 ∷ 0 ∷ 0 ∷ 0 ∷ 1 ∷ 1 ∷ 1 ∷ 1 ∷ 2 ∷ 0 ∷ 0 ∷ 1 ∷ 1 ∷ 1 ∷ 1 ∷ 2 ∷ 0 ∷ 1 ∷ 1 ∷ 2 ∷ 0 ∷ 2 ∷ 0 ∷ 1 ∷ []
+
 abbrev pub traffic : Traffic
 traffic = record {
-  sent = λ k. if nat_le k 3 then 268000 else if nat_le k 5 then 270008 else if nat_le k 12 then 271001 else if nat_le k 15 then 271500
-      else if nat_le k 16 then 272500 else if nat_le k 23 then 281250 else if nat_le k 27 then 281451 else 281552;
-  by = λ k. if (k == 12) || ((k == 23) || ((k == 26) || (k == 28))) then 2
-      else if (k == 1) || (k == 3) || (k == 6) || (k == 7) || (k == 8) || (k == 16) || (k == 17) || ((k == 18) || ((k == 27) || (k == 29))) then 0 else 1;
+  sent = λ k. if nat_le k 3 then 268000 else if nat_le k 12 then 271001 else if nat_le k 15 then 271500
+      else if nat_le k 16 then 272500 else if nat_le k 23 then 281250 else if nat_le k 30 then 301001 else if nat_le k 37 then 331001
+      else if nat_le k 38 then 337008 else if nat_le k 45 then 361001 else if nat_le k 52 then 391001 else if nat_le k 53 then 397008
+      else if nat_le k 57 then 402351 else 402452;
+  by = λ k. unwrap_or (slice_get senders (k - 1)) 1;
 }
 
 abbrev pub none_came : Arrivals
@@ -157,11 +186,15 @@ abbrev pub soon : ℕ
 soon = 100
 
 abbrev pub lag : ℕ
-lag = 10300
+lag = 6100
 
 -- the next general queries leave at 281.25 s, and 100 ms twice later is the bound
 abbrev pub bound : ℕ
 bound = 281450
+
+-- and a hop after the frames of before have come
+abbrev pub limit : ℕ
+limit = 402350
 
 -- ---- what there is
 

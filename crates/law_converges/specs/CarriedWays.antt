@@ -3,7 +3,7 @@
 use Rattle.std.{specs.{Prelude.{List, Some, [], false, ℕ, ◌<◌, ◌∷◌, ◌≡◌, ◌⊎◌}}}
 use Rattle.pim_model.{specs.{Network.{Move, Network, Station, station_at}, Sets.{assert_source, assert_star, is_loser, prunes}, State.iface_count}}
 use Rattle.law_streams.{specs.{InTimeJoins.{Pair, Star}, Passing.{Receiver, Tree}}}
-use Rattle.law_converges.{specs.{Carried.{Arrivals, EachMove, Traffic}, CarriedLinks.pair_of, CarriedNetwork.{HopOn, IsQuietPlan, Plan, WayOver, number_of}, ComesOnce.{AllCameDown, AreAlonePast, AreServedOnce, Forwarder, Forwards, HasOneOn, HoldsPastOn, Root}, Past.HoldsPast, PassedOnce.IsOnTree}}
+use Rattle.law_converges.{specs.{Carried.{Arrivals, EachMove, Traffic}, CarriedLinks.pair_of, CarriedNetwork.{HopOn, IsQuietPlan, Plan, WayOver, number_of}, ComesOnce.{AllCameDown, AreAlonePast, AreServedOnce, Forwarder, Forwards, HasOneOn, Root}, Past.{HoldsPast, HoldsPastOn}, PassedOnce.IsOnTree}}
 
 -- the next hop as a pair of routers
 abbrev pub pair_on : HopOn → Pair

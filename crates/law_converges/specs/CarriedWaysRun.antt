@@ -3,7 +3,7 @@ use Rattle.std.{specs.Prelude.{[], ◌∷◌}}
 use Rattle.pim_model.{specs.Network.{At, Network, moved, network_ran}}
 use Rattle.law_streams.{specs.Passing.{Receiver, Tree}}
 use Rattle.pim_runs.{specs.{Base.rp, InTime.started, ServedChain.{asked_group, content}}}
-use Rattle.law_converges.{specs.{Carried.EachMove, CarriedNetwork.HopOn, CarriedNetworkRun.{before, bound, by_register, high_lan, moves, nearer_on_high, plan, rp_on_high, serving, settling, source_sends, source_there, traffic}, CarriedWays.{IsOpen, root_of}, ComesOnce.{AllCameDown, AreAlonePast, ComesOnce, Forwarder, HoldsPastOn}}}
+use Rattle.law_converges.{specs.{Carried.EachMove, CarriedNetwork.HopOn, CarriedNetworkRun.{before, bound, by_register, high_lan, moves, nearer_on_high, plan, rp_on_high, serving, source_sends, source_there, traffic, until_then}, CarriedWays.{IsOpen, root_of}, ComesOnce.{AllCameDown, AreAlonePast, ComesOnce, Forwarder}, Past.HoldsPastOn}}
 
 -- the RP as the next hop of the first router, which passes the packets on to the first LAN's host
 abbrev pub its_hop : HopOn
@@ -20,11 +20,11 @@ PlanIsOpen =
 
 -- when the source has sent its second packet
 abbrev pub sent_again : Network
-sent_again = (moved (network_ran before settling).1 (At 1 source_sends)).1
+sent_again = (moved (network_ran before until_then).1 (At 1 source_sends)).1
 
 -- So that packet, which the Register brings to the RP with a TTL of 15, is on the first LAN in exactly one frame, within 100 ms.
 abbrev pub PlanServesOnce : Type 0
-PlanServesOnce = ComesOnce asked_group source_there 1 content 13 281551 traffic (root_of its_hop []) (to_host ∷ []) sent_again by_register serving
+PlanServesOnce = ComesOnce asked_group source_there 1 content 13 402451 traffic (root_of its_hop []) (to_host ∷ []) sent_again by_register serving
 
 -- And nothing else of the source comes there.
 abbrev pub PlanBringsNothingElse : Type 0

@@ -5,7 +5,7 @@ use Rattle.pim_ip.{specs.Ipv4.{Packet, copy_text, ipv4_reading, is_link_local, i
 use Rattle.pim_types.{specs.declared.event.Event.Event}
 use Rattle.pim_model.{specs.{Cause.{done_as, packet_in}, Network.{Deliver, Move, Network, Station, event_of, frame_at, moved, network_ran, station_at}, Writing.on_link}}
 use Rattle.law_streams.{specs.{Copies.{copies_at, happens}, Flows.IsCarried as Carried, InTimeJoins.time_at, Passing.{Passes, Receiver, Tree}, Roots.IsBrought, StreamRoots.Sends}}
-use Rattle.law_converges.{specs.{Carried.{Arrivals, Carries, EachMove, IsSentBy, Traffic}, LinkDr.{IsOne, Member}, Past.{ArePast, HoldsPast}}}
+use Rattle.law_converges.{specs.{Carried.{Arrivals, Carries, EachMove, IsSentBy, Traffic}, LinkDr.{IsOne, Member}, Past.{ArePast, HoldsPast, HoldsPastOn}}}
 
 -- ---- a way
 
@@ -114,12 +114,6 @@ pub record ComesOnce (g src link : ℕ) (payload : List ℕ) (lives by : ℕ) (t
 abbrev pub EachMoveOn : (Network → Move → List Move → Type 0) → Network → List Move → Type 0
 EachMoveOn P n [] = Unit {0}
 EachMoveOn P n (m ∷ ms) = P n m ms × EachMoveOn P (moved n m).1 ms
-
--- something holds of the moves that are left after each move by which the time at each router is past the bound
-abbrev pub HoldsPastOn : (ℕ → ℕ) → (bound : ℕ) → (Network → List Move → Type 0) → Network → List Move → Type 0
-HoldsPastOn started bound P n [] = Unit {0}
-HoldsPastOn started bound P n (m ∷ ms) =
-    (ArePast started bound (moved n m).1 → P (moved n m).1 ms) × HoldsPastOn started bound P (moved n m).1 ms
 
 -- if a move brings a packet of the source to the root, on a tree or in a Register, it comes down exactly once, within d for each
 -- router of the way, if the moves go so far

@@ -1,8 +1,8 @@
 -- A whole way comes to be joined from nothing: each router of it comes to hold what is joined, and from then on wants it, and
 -- so joins it over the next (RFC 7761, 4.5.4 and 4.5.5).
 use Rattle.std.{specs.Prelude.{List, Some, [], false, ℕ, ◌*◌, ◌+◌, ◌<◌, ◌==◌, ◌∷◌, ◌≡◌, ◌≤◌}}
-use Rattle.pim_types.{specs.declared.fact.JoinTimerRow.JoinTimerRow}
-use Rattle.pim_model.{specs.{Network.{Move, Network, Station, station_at}, Tables.row_at}}
+use Rattle.pim_types.{specs.declared.{config.Config.Config, event.Event.Event, fact.JoinTimerRow.JoinTimerRow}}
+use Rattle.pim_model.{specs.{Network.{Move, Network, Station, station_at}, State.opening, Step.state_after, Tables.row_at}}
 use Rattle.law_streams.{specs.InTimeJoins.{Always, AreInTime, AreThere, IsBy, IsHeld, IsJoin, IsReady, IsUnlost, Join, Pair, Wants, join_key, most_late, time_at}}
 use Rattle.law_converges.{specs.Past.HoldsPast}
 
@@ -14,6 +14,12 @@ longest_join = 84000
 abbrev pub IsNear : Join → (g r : ℕ) → Network → Type 0
 IsNear x g r n = (st : Station) (row : JoinTimerRow) → station_at n r ≡ Some st
     → row_at (st.state).join_timers (join_key x 0 g) ≡ Some row → row.end ≤ (st.state).present + longest_join
+
+-- After any events each Join timer runs no longer than that.
+abbrev pub JoinTimersAreShort : Type 0
+JoinTimersAreShort = (x : Join) (g : ℕ) (config : Config) (events : List Event) (row : JoinTimerRow)
+    → row_at (state_after (opening config) events).join_timers (join_key x 0 g) ≡ Some row
+    → row.end ≤ (state_after (opening config) events).present + longest_join
 
 -- no router is further than the lag ahead of another
 abbrev pub AreTogether : (lag : ℕ) → (ℕ → ℕ) → Network → Type 0

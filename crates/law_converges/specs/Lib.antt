@@ -33,6 +33,7 @@ pub mod RoutesToRp
 pub mod RoutedWays
 pub mod AloneByAssert
 pub mod SilentRouters
+pub mod Unheard
 pub mod MemberLinks
 pub mod AloneOnLink
 pub mod EachMember

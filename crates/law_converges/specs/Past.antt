@@ -12,3 +12,9 @@ abbrev pub HoldsPast : (ℕ → ℕ) → (bound : ℕ) → (Network → Type 0) 
 HoldsPast started bound P n [] = Unit {0}
 HoldsPast started bound P n (m ∷ ms) =
     (ArePast started bound (moved n m).1 → P (moved n m).1) × HoldsPast started bound P (moved n m).1 ms
+
+-- something holds of the moves that are left after each move by which the time at each router is past the bound
+abbrev pub HoldsPastOn : (ℕ → ℕ) → (bound : ℕ) → (Network → List Move → Type 0) → Network → List Move → Type 0
+HoldsPastOn started bound P n [] = Unit {0}
+HoldsPastOn started bound P n (m ∷ ms) =
+    (ArePast started bound (moved n m).1 → P (moved n m).1 ms) × HoldsPastOn started bound P (moved n m).1 ms

@@ -1,8 +1,8 @@
 -- Down a way that follows the routes each packet comes exactly once: what a router wants is served, and the way needn't be given.
-use Rattle.std.{specs.{List.AllByRecursion, Prelude.{List, Some, [], false, not, slice_get, ℕ, ◌&&◌, ◌==◌, ◌∷◌, ◌≡◌}}}
+use Rattle.std.{specs.Prelude.{List, Some, [], false, not, slice_get, ℕ, ◌&&◌, ◌==◌, ◌∷◌, ◌≡◌}}
 use Rattle.pim_model.{specs.{Full.source_is_full, Network.{Move, Network, Station, station_at}, Sets.{assert_source, is_loser, prunes, spt_bit}, State.is_own, Unicast.is_rpf_interface}}
 use Rattle.law_streams.{specs.InTimeJoins.Star}
-use Rattle.law_converges.{specs.{Carried.{Arrivals, EachMove, Traffic}, CarriedNetwork.{HopOn, HopsAreQuiet, IsQuietPlan, Lan, LanIsQuiet, Plan, number_of}, CarriedWays.{AreOnTree, forwarders, root_of}, ComesOnce.{AllCameDown, AreAlonePast, AreServedOnce, Forwarder, Forwards, HoldsPastOn}, Past.HoldsPast, RoutesToRp.{AllCanJoin, AreNeighbours, RoutesLead, Routing, WantsInTime, hops_up}}}
+use Rattle.law_converges.{specs.{Carried.{Arrivals, EachMove, Traffic}, CarriedNetwork.{HopOn, IsQuietPlan, Plan, number_of}, CarriedWays.{forwarders, root_of}, ComesOnce.{AllCameDown, AreAlonePast, AreServedOnce, Forwarder, Forwards}, Past.{HoldsPast, HoldsPastOn}, RoutesToRp.{AllCanJoin, NoneLostOn, RoutesLead, Routing, WantsFrom, hops_up}}}
 
 -- nothing keeps a source's packets from the LAN of a next hop: it hasn't lost the assert of the source there, nobody prunes the
 -- source, and it has one interface there
@@ -28,13 +28,6 @@ abbrev pub AreFree : (g src : ℕ) → HopOn → List HopOn → Network → Type
 AreFree g src h [] n = IsFree g src h n
 AreFree g src h (k ∷ ks) n = IsFree g src h n × TakesIn g src h k n × AreFree g src k ks n
 
--- The next hops of a way over quiet LANs, which nothing keeps a source's packets from, are on the group's tree.
-abbrev pub NextHopsAreOnTree : Type 0
-NextHopsAreOnTree = (g src rp d late bound limit : ℕ) (started : ℕ → ℕ) (t : Traffic) (came : Arrivals) (lans : List Lan) (n : Network)
-    (ms : List Move) (h : HopOn) (hs : List HopOn) → AllByRecursion (LanIsQuiet d late bound started t came n ms) lans
-    → HopsAreQuiet (Star rp) g t lans n ms (h.lower).router (h ∷ hs) → HoldsPast started limit (AreFree g src h hs) n ms
-    → HoldsPast started limit (AreOnTree g src h hs) n ms
-
 -- from a bound on the first router of a way passes a source's packets on to a link, and nothing keeps them from it
 pub record PassesDown (g src : ℕ) (started : ℕ → ℕ) (bound : ℕ) (n : Network) (ms : List Move) (h : HopOn) (hs : List HopOn) (f : Forwarder)
     : Type 0 where
@@ -53,10 +46,10 @@ pub record IsServed (g d : ℕ) (started : ℕ → ℕ) (bound : ℕ) (t : Traff
       → HoldsPastOn started bound (AllCameDown g src (root_of h hs) f.below (f ∷ forwarders h hs)) n ms
 
 -- In a quiet plan over whose LANs the routes lead, each packet that is brought to the RP comes exactly once down a way of each
--- router that wants the group in time.
+-- router that wants the group from a time on.
 abbrev pub EveryWantIsServedOnce : Type 0
-EveryWantIsServedOnce = (g rp d late lag bound : ℕ) (started : ℕ → ℕ) (t : Traffic) (came : Arrivals) (plan : Plan) (routing : Routing) (n : Network)
-    (ms : List Move) (r k : ℕ) → IsQuietPlan d late lag bound started t came plan n ms → AllByRecursion (AreNeighbours d started n) plan.lans
-    → RoutesLead (Star rp) g plan.lans routing n ms → AllCanJoin (Star rp) g t routing n ms → routing.distance r ≡ Some k
-    → WantsInTime (Star rp) g d lag started bound r k n ms → (h : HopOn) (hs : List HopOn) → hops_up routing k r ≡ h ∷ hs
-    → IsServed g d started bound t n ms h hs
+EveryWantIsServedOnce = (g rp d late lag bound limit : ℕ) (started : ℕ → ℕ) (t : Traffic) (came : Arrivals) (plan : Plan) (routing : Routing)
+    (n : Network) (ms : List Move) (r k : ℕ) → IsQuietPlan d late lag bound started t came plan n ms
+    → RoutesLead (Star rp) g plan.lans routing n ms → NoneLostOn (Star rp) g bound started routing n ms → AllCanJoin (Star rp) g t routing n ms
+    → routing.distance r ≡ Some k → WantsFrom (Star rp) g d lag started bound limit r k n ms → (h : HopOn) (hs : List HopOn)
+    → hops_up routing k r ≡ h ∷ hs → IsServed g d started limit t n ms h hs

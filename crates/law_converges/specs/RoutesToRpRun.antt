@@ -1,9 +1,9 @@
--- On the two LANs the routes of both routers lead to the RP: the second one's way follows, and isn't given. Computed by the kernel.
-use Rattle.std.{specs.{List.AllByRecursion, Prelude.{None, Option, Some, [], suc, zero, ℕ, ◌∷◌, ◌≡◌}}}
+-- On the two LANs the routes of both routers lead to the RP: their ways follow, and aren't given. Computed by the kernel.
+use Rattle.std.{specs.Prelude.{None, Option, Some, [], suc, zero, ℕ, ◌∷◌, ◌≡◌}}
 use Rattle.pim_model.{specs.Network.network_ran}
 use Rattle.law_streams.{specs.InTimeJoins.IsHeld}
 use Rattle.pim_runs.{specs.{InTime.started, ServedChain.asked_group}}
-use Rattle.law_converges.{specs.{CarriedNetwork.{HopOn, IsQuietPlan}, CarriedNetworkRun.{before, bound, farther_on_high, high_lan, lag, moves, none_came, plan, rp_on_high, soon, source_there, star, traffic}, CarriedWays.{pair_on, root_of}, CarriedWaysRun.{its_hop, to_host}, ComesOnce.{AreServedOnce, HoldsPastOn}, RoutedWays.PassesDown, RoutesToRp.{AllCanJoin, AreNeighbours, HasWayUp, RoutesLead, Routing, WantsThroughout, hops_up, way_up, with_way}}}
+use Rattle.law_converges.{specs.{CarriedNetwork.HopOn, CarriedNetworkRun.{before, bound, farther_on_high, high_lan, lag, limit, moves, plan, rp_on_high, soon, source_there, star, traffic}, CarriedWays.{pair_on, root_of}, CarriedWaysRun.{its_hop, to_host}, ComesOnce.AreServedOnce, Past.HoldsPastOn, RoutedWays.PassesDown, RoutesToRp.{AllCanJoin, HasWayUp, NoneLostOn, RoutesLead, Routing, WantsFrom, hops_up}}}
 
 -- the RP as the next hop of the second router
 abbrev pub farther_hop : HopOn
@@ -23,30 +23,26 @@ hops_away (suc (suc (suc r))) = None
 abbrev pub routing : Routing
 routing = record { next = next_hop; distance = hops_away }
 
--- The routers are neighbours to begin with, their routes lead to the RP, and the second one, whose way isn't in the plan, wants the
--- group throughout.
+-- The routes lead to the RP, from the bound on no assert of the group is lost there, and each router can join.
 abbrev pub RoutesLeadOnPlan : Type 0
 RoutesLeadOnPlan =
-    AllByRecursion (AreNeighbours soon started before) plan.lans
-    × RoutesLead star asked_group plan.lans routing before moves
+    RoutesLead star asked_group plan.lans routing before moves
+    × NoneLostOn star asked_group bound started routing before moves
     × AllCanJoin star asked_group traffic routing before moves
-    × WantsThroughout star asked_group soon lag started bound 1 1 before moves
 
--- So the RP is the one next hop of its way, and holds what it joins at the end.
+-- So the RP is the one next hop of the second router's way, and holds what it joins at the end: it wants the group from when what was sent
+-- before the bound has come.
 abbrev pub FartherIsHeldToRp : Type 0
 FartherIsHeldToRp =
-    HasWayUp star asked_group traffic plan.lans routing before moves 1 1
+    WantsFrom star asked_group soon lag started bound limit 1 1 before moves
+    × HasWayUp star asked_group bound started plan.lans routing before moves 1 1
     × (hops_up routing 1 1 ≡ farther_hop ∷ [])
     × IsHeld star asked_group (pair_on farther_hop) (network_ran before moves).1
-
--- And the plan is as quiet with this way.
-abbrev pub FartherWayIsQuiet : Type 0
-FartherWayIsQuiet = IsQuietPlan soon soon lag bound started traffic none_came (with_way plan (way_up star asked_group routing 1 1)) before moves
 
 -- The way of the first router, by the routes, is the one that is given in the plan, nothing keeps the source's packets from it, and
 -- down it each comes once.
 abbrev pub NearerIsServedOnce : Type 0
 NearerIsServedOnce =
     (hops_up routing 1 0 ≡ its_hop ∷ [])
-    × PassesDown asked_group source_there started bound before moves its_hop [] to_host
-    × HoldsPastOn started bound (AreServedOnce asked_group source_there soon started traffic (root_of its_hop []) 1 (to_host ∷ [])) before moves
+    × PassesDown asked_group source_there started limit before moves its_hop [] to_host
+    × HoldsPastOn started limit (AreServedOnce asked_group source_there soon started traffic (root_of its_hop []) 1 (to_host ∷ [])) before moves

@@ -2,6 +2,7 @@
 
 ghost use Rattle.law_converges.specs.LinkAsserts.{GivesWayToAssert, OneWinnerIsLeft, WinnerAnswersAssert};
 ghost use Rattle.law_converges.specs.LinkLosers.{EventKeepsLoss, LoserComesToStay, LoserStaysLoser};
+ghost use Rattle.law_converges.specs.Unheard.{LostAssertEnds};
 ghost use Rattle.law_converges.specs.OneSender.{AtMostOneComesToSend, AtMostOneSends, LoserSendsNone};
 
 /// A router that gives way to an Assert has lost the assert to it until 180 s after its present time, or has no assert any
@@ -65,4 +66,10 @@ pub fn at_most_one_sends()
 /// So it is from 2 d after the winner's Assert Timer expires on, whatever the other one was before.
 pub fn at_most_one_comes_to_send()
     ensures { AtMostOneComesToSend }
+{}
+
+/// From the end of its Assert Timer on a lost assert is over, while no Assert comes that its machine may read: of a source's assert
+/// one of the source, of a group's one with RPTbit set. The timer of a loser runs for 180 s at most.
+pub fn lost_assert_ends()
+    ensures { LostAssertEnds }
 {}

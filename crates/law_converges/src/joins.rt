@@ -1,6 +1,6 @@
 //! What routers come to join.
 
-ghost use Rattle.law_converges.specs.JoinedWays.{WayComesToBeJoined};
+ghost use Rattle.law_converges.specs.JoinedWays.{JoinTimersAreShort, WayComesToBeJoined};
 ghost use Rattle.law_converges.specs.LinkJoins.{AllComeToBeHeld};
 ghost use Rattle.law_converges.specs.PassedOnce.{HeldIsPassedOnce};
 
@@ -22,6 +22,11 @@ pub fn all_come_to_be_held()
 /// another router's Join may hold a Join back.
 pub fn way_comes_to_be_joined()
     ensures { WayComesToBeJoined }
+{}
+
+/// After any events of a router no Join timer runs for longer than 84 s, whatever the next hops are.
+pub fn join_timers_are_short()
+    ensures { JoinTimersAreShort }
 {}
 
 /// A next hop that comes to hold a group from a bound on, as `AllComeToBeHeld`, `WayComesToBeJoined` and `NetworkSettles` say,

@@ -2,6 +2,7 @@
 
 ghost use Rattle.law_converges.specs.LinkRpt.{AnswerComes, JoinOverrides, OverrideLeaves, PruneWaits, PruneWaitsOn, SeenPruneIsAnswered, StarJoinOverrides, UnprunedStays};
 ghost use Rattle.law_converges.specs.LinkRptOrder.{OverriddenPruneHasNoEffect};
+ghost use Rattle.law_converges.specs.Unheard.{PruneEnds};
 
 /// A Prune(S,G,rpt) that a router with several neighbours on an interface takes in state NoInfo is in Prune-Pending until
 /// J/P_Override_Interval, which is Effective_Propagation_Delay and Effective_Override_Interval, after its present, and not
@@ -60,4 +61,9 @@ pub fn answer_comes()
 /// the stored scenarios `override_before_prune` and `override_too_late`.
 pub fn overridden_prune_has_no_effect()
     ensures { OverriddenPruneHasNoEffect }
+{}
+
+/// From when a Prune(S,G,rpt) expires on the source isn't pruned on the interface, while no message to the router prunes it there.
+pub fn prune_ends()
+    ensures { PruneEnds }
 {}

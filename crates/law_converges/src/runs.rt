@@ -3,7 +3,7 @@ ghost use Rattle.law_converges.specs.AloneByAssertRun.{WinnerAloneOnPlan};
 ghost use Rattle.law_converges.specs.CarriedNetworkRun.{OverrideComesInOrder, PlanIsQuiet, PlanSettles, PruneHasNoEffect};
 ghost use Rattle.law_converges.specs.CarriedWaysRun.{PlanBringsNothingElse, PlanIsOpen, PlanServesOnce};
 ghost use Rattle.law_converges.specs.ComesOnceRun.{ChainForwards, ChainServesOnce};
-ghost use Rattle.law_converges.specs.EachMemberRun.{BothAreReached, BothAreServed};
+ghost use Rattle.law_converges.specs.EachMemberRun.{BothAreReached, BothAreServed, NothingElseComesToBoth};
 ghost use Rattle.law_converges.specs.JoinedWaysRun.{ChainComesInTime, ChainComesToBeJoined, ChainPassesOnce};
 ghost use Rattle.law_converges.specs.LeftGroupRun.{SilentGroupEnds};
 ghost use Rattle.law_converges.specs.LinkAssertsRun.{FartherLoses, NearerAnswers};
@@ -12,10 +12,10 @@ ghost use Rattle.law_converges.specs.LinkJoinsRun.{BothComeToBeHeld, BothJoinInT
 ghost use Rattle.law_converges.specs.LinkLosersRun.{FartherComesToLose, FartherStaysLoser, NearerAssertsInTime};
 ghost use Rattle.law_converges.specs.LinkMembersRun.{HostAnswersInTime, HostComesToBeKnown, HostStaysKnown};
 ghost use Rattle.law_converges.specs.LinkQuerierRun.{OneComesToQuery, QueriesComeInTime};
-ghost use Rattle.law_converges.specs.MemberLinksRun.{BothAreOpen, BothAreServedOnce, BothAreWanted, NoOthersSend, NothingElseComesToBoth, ServedPlanIsQuiet};
+ghost use Rattle.law_converges.specs.MemberLinksRun.{BothAreWanted, NoOthersSend, ServedPlanIsQuiet};
 ghost use Rattle.law_converges.specs.OneSenderRun.{FartherSendsNone};
 ghost use Rattle.law_converges.specs.NextHopRun.{OtherTakesOver, RouterTurns};
-ghost use Rattle.law_converges.specs.RoutesToRpRun.{FartherIsHeldToRp, FartherWayIsQuiet, NearerIsServedOnce, RoutesLeadOnPlan};
+ghost use Rattle.law_converges.specs.RoutesToRpRun.{FartherIsHeldToRp, NearerIsServedOnce, RoutesLeadOnPlan};
 
 /// The first router of the chain turns from one next hop to another.
 pub fn router_turns()
@@ -144,20 +144,14 @@ pub fn plan_settles()
     ensures { PlanSettles }
 {}
 
-/// To begin with the routers of the LANs are neighbours, their routes lead to the RP, and the second router, whose way isn't in
-/// the plan, wants the group too.
+/// The routes of both routers lead to the RP, each can join over it, and from the bound on none has lost the group's assert there.
 pub fn routes_lead_on_plan()
     ensures { RoutesLeadOnPlan }
 {}
 
-/// So a way of it leads to the RP, and at the end each next hop of this way holds what is joined.
+/// So a way of the second router, which isn't in the plan, leads to the RP, and at the end its next hop holds what is joined.
 pub fn farther_is_held_to_rp()
     ensures { FartherIsHeldToRp }
-{}
-
-/// And the plan is as quiet with this way.
-pub fn farther_way_is_quiet()
-    ensures { FartherWayIsQuiet }
 {}
 
 /// The way of the first router, by the routes, is the one in the plan, and down it each packet comes once.
@@ -200,20 +194,9 @@ pub fn served_plan_is_quiet()
     ensures { ServedPlanIsQuiet }
 {}
 
-/// The first LAN is served by the winner of the assert, and that link by its DR; the RP, which is the next hop of both, holds the
-/// group from the bound on.
-pub fn both_are_open()
-    ensures { BothAreOpen }
-{}
-
-/// So both routers want the group.
+/// The first LAN is served by the winner of the assert, and that link by its DR: so both routers want the group.
 pub fn both_are_wanted()
     ensures { BothAreWanted }
-{}
-
-/// So each packet of the source far away that comes to the RP is on each of both links once.
-pub fn both_are_served_once()
-    ensures { BothAreServedOnce }
 {}
 
 /// The loser of the assert isn't asked on the first LAN, nor either of both on the RP's LAN, which is their only way in.
@@ -221,17 +204,18 @@ pub fn no_others_send()
     ensures { NoOthersSend }
 {}
 
-/// So nothing else of the source comes to either.
-pub fn nothing_else_comes_to_both()
-    ensures { NothingElseComesToBoth }
-{}
-
-/// By their routes the RP is the next hop of both routers that serve a receiver, and nothing keeps the packets from there.
+/// By their routes the RP is the next hop of both routers that serve a receiver, and nothing that is sent keeps the packets from
+/// there.
 pub fn both_are_reached()
     ensures { BothAreReached }
 {}
 
-/// So both receivers are served without ways that are given.
+/// So both receivers are served without ways that are given, nor that the routers are neighbours to begin with.
 pub fn both_are_served()
     ensures { BothAreServed }
+{}
+
+/// And nothing else of the source comes to either.
+pub fn nothing_else_comes_to_both()
+    ensures { NothingElseComesToBoth }
 {}

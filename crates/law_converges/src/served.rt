@@ -1,30 +1,16 @@
 //! Links with a member of a group: who serves it there, and that each packet is there once and nothing else.
 
-ghost use Rattle.law_converges.specs.AloneOnLink.{MemberLinkBringsNothingElse, OneRouterSends};
+ghost use Rattle.law_converges.specs.AloneOnLink.{OneRouterSends};
 ghost use Rattle.law_converges.specs.EachMember.{EachMemberIsServed};
-ghost use Rattle.law_converges.specs.MemberLinks.{MemberIsWanted, MemberLinkIsServedOnce, MemberWayIsHeld};
+ghost use Rattle.law_converges.specs.MemberLinks.{MemberIsWanted};
 ghost use Rattle.law_converges.specs.SilentRouters.{OnlyWayInIsTaken, UnaskedSendsNone};
 
 /// Who asks is wanted: in a network that settles the router that serves a link with a member of a group wants the group
 /// (JoinDesired), from the bound on. This is the link's DR, that with the highest priority, and of these with the highest
-/// address; or the winner of the group's assert there. It knows the group, as each router of the link does by then. That it has
-/// not lost the group's assert there is a premise.
+/// address; or the winner of the group's assert there. It knows the group, as each router of the link does by then. A premise is
+/// that it loses no assert of the group there: the winner doesn't, nor who hears none, once what it had lost is over.
 pub fn member_is_wanted()
     ensures { MemberIsWanted }
-{}
-
-/// And its next hops up to the RP come to hold the group: by one hop after the bound for each of them, as `WayComesToBeJoined`
-/// counts it. They needn't hold anything to begin with, nor need the router want it then.
-pub fn member_way_is_held()
-    ensures { MemberWayIsHeld }
-{}
-
-/// Each packet is there exactly once: from when they hold it, each packet of a source that an event brings to the RP, on a tree or in
-/// a Register, is in exactly one frame on the link, as `EachPacketComesOnce` says. Premises are what a network that settles
-/// doesn't give: that the routers are on the group's tree and have room, that no assert is lost and no source pruned or
-/// excluded where the packets go, and that each router has one interface on the link.
-pub fn member_link_is_served_once()
-    ensures { MemberLinkIsServedOnce }
 {}
 
 /// Who isn't asked sends none: no router joined the group or the source over it on the interface, and it is neither the DR nor an
@@ -46,20 +32,18 @@ pub fn one_router_sends()
     ensures { OneRouterSends }
 {}
 
-/// And nothing else of the source comes to a link with a member: each frame there that holds one of its packets comes, router by
-/// router, of a packet that an event brought to the RP, or of a frame of before. Of each link of the way one of the reasons of
-/// `OneRouterSends` is asked for each router but the one that sends; of each router of the way that the link above is its only
-/// way in, and that no host sends it the source's packets there.
-pub fn member_link_brings_nothing_else()
-    ensures { MemberLinkBringsNothingElse }
-{}
-
-/// Each member is served: where the routes lead to the RP, neither a way has to be given nor who wants the group. In a network
-/// that settles each link with a member, whose router's routes lead to the RP on another link, has a way of next hops to it,
-/// which come to hold the group: by one hop after the bound for each, or sooner where the router wanted the group throughout.
-/// From then on each packet of a source that an event brings to the RP, on a tree or in a Register, is on the link in exactly one
-/// frame; and nothing else of the source is, where no other router sends its packets on the way's links. Premises are those of
-/// `EveryWantIsHeldToRp`, and what keeps packets away: an assert that is lost, a source that is pruned or excluded, no room.
+/// Each member is served: where the routes lead to the RP, neither a way has to be given nor who wants the group, nor that routers
+/// are neighbours. In a network that settles each link with a member, whose router's routes lead to the RP, each over another link,
+/// has a way of next hops to it, which come to hold the group: by one hop after what was sent before the bound has come, for each
+/// of them. From then on each packet of a source that an event brings to the RP, on a tree or in a Register, is on the link in
+/// exactly one frame. And each frame there that holds one of the source's packets comes, router by router, of a packet that an
+/// event brought to the RP, or of a frame of before, where on each link of the way no other router sends them, for one of the
+/// reasons of `OneRouterSends`, the link above is the only way in of each router of the way, and no host sends them to it.
+///
+/// That no assert is lost and no source pruned on the way follows of what is sent: no Assert of the group, or of the source, and no
+/// Prune(S,G,rpt) comes where the packets go, and what was before is over by the bound; or the router wins the group's assert
+/// there. Other premises are those of `EveryWantIsHeldToRp`; whoever is on a link is one of its routers; and of the routers of the
+/// way, from the limit on, that they have room for the source, and that its packets come on no other tree.
 pub fn each_member_is_served()
     ensures { EachMemberIsServed }
 {}

@@ -1,7 +1,7 @@
 -- No event and no firing changes the settings or what is configured, and none but new routes and RP ranges changes
 -- these.
 use Rattle.std.{proofs.Common.{◌≡◌, ℕ, suc, ◌≤◌, Bool, true, false, List, [], ◌∷◌, Some, map, max, refl, sym, ap, arith}, specs.List.list_any}
-use Rattle.pim_types.{specs.{declared.{config.{Route.Route, RpRange.RpRange, Settings.Settings}, fact.{InterfaceRow.InterfaceRow, Key.Key}, timer.TimerKind.TimerKind}, Keys.{group_in, star_key}}}
+use Rattle.pim_types.{specs.{declared.{config.{Route.Route, RpTable.RpTable, Settings.Settings}, fact.{InterfaceRow.InterfaceRow, Key.Key}, timer.TimerKind.TimerKind}, Keys.{group_in, star_key}}}
 use Rattle.pim_wire.{specs.declared.hello.Hello.Hello as HelloValue}
 use Rattle.pim_model.{specs.{declared.accepted.Accepted.Accepted, Firing.fired, Hellos.{hello_received, hello_triggered, neighbour_due, neighbour_replaced, neighbour_restarted}, Querier.{querier_up, querying}, Reach.own_firing, State.{Addressing, State}, Step.{change, iface_down, iface_up, rps_replaced}, Tables.Table, Timers.Ending}}
 use Rattle.law_events.{specs.{Events.touched_by_event, Locality.{AgreesBut, touching}, Scopes.{only_up, reads, scope}, Switched.is_switch, Touches.{isnt_neighbour, touched_by}}, proofs.{EventLaws.change_touches, Hellos.hello_ups, SilentEvents.timer_touches, Reached.IsConfigured}}
@@ -31,7 +31,7 @@ pub record Ground : Type 0 where
   pub settings : Settings
   pub configured : Addressing
   pub routes : List Route
-  pub ranges : List RpRange
+  pub ranges : RpTable
 
 abbrev pub ground : State → Ground
 ground s = record { settings = s.settings; configured = s.configured; routes = s.routes; ranges = s.ranges }

@@ -1,6 +1,6 @@
 -- The keys that new routes, or new RP ranges, touch: they take all that is moved of which there are facts.
 use Rattle.std.{proofs.{Common.{◌≡◌, ◌==◌, ◌&&◌, ◌||◌, ℕ, Bool, true, false, not, List, filter, is_some, refl, sym, ap, subst, ◌∙◌, eq-eqb, eqb-true, arith}, lemmas.Bool.{false_from_ne_true, or_left}}, specs.{Cmp.Derive.both_true, List.list_all}}
-use Rattle.pim_types.{specs.{declared.{config.{Route.Route, RpRange.RpRange}, fact.Key.Key}, Keys.{group_in, source_in, source_key, star_key}}}
+use Rattle.pim_types.{specs.{declared.{config.{Route.Route, RpTable.RpTable}, fact.Key.Key}, Keys.{group_in, source_in, source_key, star_key}}}
 use Rattle.pim_model.{specs.{declared.accepted.Accepted.Accepted, Rows.{same_both, same_path}, State.State, Step.{change, rps_replaced}, Tables.same_option, Unicast.{route, rp_of, rp_route}, Upstream.{fact_keys, groups_of, sources_of}}}
 use Rattle.law_settled.{proofs.{ListLaws.{any_more, each_more, list_of_each}, TableLaws.{any_in_filter, any_of_map}}}
 use Rattle.law_events.{specs.{Locality.touching, Scopes.reads, Moved.{MovesAlone, is_touched_where_rerouted, keys_by_routes, keys_by_rps, moved_of_group, rerouted_sources}, Named.{has_same_routes, has_same_rp}}, proofs.{Asserts.reads_itself, TouchedUpstream.reads_star, FactsThere.{IsThere, each_is_there, group_there, in_each, some_source, source_there, unless_star}, Rerouted.{routes_reroute, rps_reroute}, NamedSameRows.options, Sights.paths_same}}
@@ -76,7 +76,7 @@ routes_move s w routes = grind (arith, routes_reroute, all_taken, star_by_routes
 
 -- ---- new RP ranges
 
-module _ (s : State) (w : ℕ) (ranges : List RpRange) where
+module _ (s : State) (w : ℕ) (ranges : RpTable) where
   abbrev after : State
   after = (change s w (Accepted.Rps ranges)).state
 

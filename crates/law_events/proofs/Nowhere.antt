@@ -1,8 +1,8 @@
 -- A neighbour whose address is no next hop, no RP and no source with a fact: no path leads to it.
-use Rattle.std.{proofs.{Common.{◌≡◌, ◌==◌, ◌&&◌, ◌||◌, ℕ, Bool, true, false, List, [], ◌∷◌, filter, Option, Some, None, is_some, refl, arith}, Math.Bool.and-false}, specs.{List.{flat_map, list_any}, Option.option_map_or, Prelude.{if◌then◌else◌, option_and_then, option_map}}}
+use Rattle.std.{proofs.{Common.{◌≡◌, ◌==◌, ◌&&◌, ◌||◌, ℕ, Bool, true, false, List, [], ◌∷◌, filter, Option, Some, None, is_some, refl, arith}, Math.Bool.and-false}, specs.{List.{flat_map, list_any}, Option.option_map_or, Prelude.{if◌then◌else◌, nat_lt, option_and_then}}}
 use Rattle.pim_ip.{specs.{Ipv4.is_source_specific, Prefixes.{longer, longest_match}, declared.addr.Prefix.Prefix}}
-use Rattle.pim_types.{specs.{declared.{config.{Route.Route, RpRange.RpRange}, fact.{InterfaceRow.InterfaceRow, Key.Key}, path.Path.Path}, Keys.source_in}}
-use Rattle.pim_model.{specs.{State.{Addressing, State}, Tables.Table, Unicast.{link_path, path_if_up, route, route_among, route_path, routed_among, rp_among, rp_of, rp_route}, Upstream.{fact_keys, groups_of, sources_of}}}
+use Rattle.pim_types.{specs.{declared.{config.{Route.Route, RpCandidate.RpCandidate, RpRange.RpRange, RpTable.RpTable}, fact.{InterfaceRow.InterfaceRow, Key.Key}, path.Path.Path}, Keys.source_in}}
+use Rattle.pim_model.{specs.{Candidates.{chosen, chosen_among}, State.{Addressing, State}, Tables.Table, Unicast.{any_rp, link_path, nearer_rp, path_if_up, route, route_among, route_path, routed_among, rp_among, rp_of, rp_route}, Upstream.{fact_keys, groups_of, sources_of}}}
 use Rattle.law_settled.{proofs.{ListLaws.any_more, Numbers.any_ascending, TableLaws.{any_in_filter, any_of_map}}}
 use Rattle.law_events.{specs.Adjacent.{leads_to, led_keys, led_of_group, led_sources, may_lead}}
 
@@ -35,6 +35,56 @@ module _ {X : Type 0} (prefix_of : X → Prefix) (test : X → Bool) where
   longest_fails address [] none = refl
   longest_fails address (x ∷ xs) none =
       grind (arith, longest_fails address xs (neither_second (test x) (list_any test xs) none), match_fails, neither_first, neither_second)
+
+-- the candidate that is chosen is one of the list
+module _ (test : RpCandidate → Bool) (g : ℕ) where
+  chosen_fails : (c : RpCandidate) (best : Option RpCandidate) → test c ≡ false → option_map_or test best false ≡ false
+      → test (chosen g c best) ≡ false
+  unfolding chosen
+  chosen_fails c best here later = grind arith
+
+  choice_fails : (c : RpCandidate) (best : Option RpCandidate) (b : Bool) → test c ≡ false
+      → option_map_or test best false ≡ false
+      → option_map_or test (if b then Some (chosen g c best) else best) false ≡ false
+  choice_fails c best b here later = grind (arith, chosen_fails)
+
+  none_chosen : (cs : List RpCandidate) → list_any test cs ≡ false
+      → option_map_or test (chosen_among cs g) false ≡ false
+  unfolding chosen_among
+  none_chosen [] none = refl
+  none_chosen (c ∷ cs) none =
+      grind (arith, none_chosen cs (neither_second (test c) (list_any test cs) none), choice_fails, neither_first, neither_second)
+
+-- RP(G) is the RP of a range or of a candidate
+module _ (test : ℕ → Bool) where
+  either_fails : (b : Bool) (m n : ℕ) → test m ≡ false → test n ≡ false → test (if b then m else n) ≡ false
+  either_fails true m n first second = first
+  either_fails false m n first second = second
+
+  nearer_fails : (r : Option RpRange) (c : Option RpCandidate)
+      → option_map_or (λ (r : RpRange). test r.rp.bits) r false ≡ false
+      → option_map_or (λ (c : RpCandidate). test c.rp.bits) c false ≡ false
+      → option_map_or test (nearer_rp r c) false ≡ false
+  nearer_fails None None first second = refl
+  nearer_fails None (Some c) first second = second
+  nearer_fails (Some r) None first second = first
+  nearer_fails (Some r) (Some c) first second =
+      either_fails (nat_lt r.prefix.length c.prefix.length) c.rp.bits r.rp.bits second first
+
+  unless_specific_fails : (b : Bool) (rp : Option ℕ) → option_map_or test rp false ≡ false
+      → option_map_or test (if b then None else rp) false ≡ false
+  unless_specific_fails true rp fails = refl
+  unless_specific_fails false rp fails = fails
+
+  pub rp_fails : (g : ℕ) (ranges : RpTable) → any_rp test ranges ≡ false
+      → option_map_or test (rp_among ranges g) false ≡ false
+  unfolding rp_among
+  rp_fails g ranges none =
+      unless_specific_fails (is_source_specific g) _
+      (nearer_fails (longest_match (λ (r : RpRange). r.prefix) ranges.static_ranges g) (chosen_among ranges.candidates g)
+      (longest_fails (λ (r : RpRange). r.prefix) (λ (r : RpRange). test r.rp.bits) g ranges.static_ranges
+      (neither_first _ _ none))
+      (none_chosen (λ (c : RpCandidate). test c.rp.bits) g ranges.candidates (neither_second _ _ none)))
 
 -- no source of a group passes
 pub sources_fail : (test : ℕ → Bool) (keys : List Key)
@@ -84,7 +134,7 @@ module _ (s : State) (i address : ℕ) (none : may_lead s address ≡ false) whe
   unfolding may_lead
   no_hop = neither_first _ _ (neither_first _ _ none)
 
-  no_rp : list_any (λ (r : RpRange). r.rp.bits == address) s.ranges ≡ false
+  no_rp : any_rp (λ rp. rp == address) s.ranges ≡ false
   unfolding may_lead
   no_rp = neither_second _ _ (neither_first _ _ none)
 
@@ -96,20 +146,13 @@ module _ (s : State) (i address : ℕ) (none : may_lead s address ≡ false) whe
   unfolding route
   elsewhere a other = route_elsewhere s.configured s.interfaces s.routes i address no_hop a other
 
-  to_rp : (best : Option RpRange) → option_map_or (λ (r : RpRange). r.rp.bits == address) best false ≡ false
-      → leads_to i address (option_and_then (route s) (option_map (λ (r : RpRange). r.rp.bits) best)) ≡ false
-  to_rp best other = grind (arith, elsewhere)
-
-  unless_specific : (b : Bool) (rp : Option ℕ) → leads_to i address (option_and_then (route s) rp) ≡ false
-      → leads_to i address (option_and_then (route s) (if b then None else rp)) ≡ false
-  unless_specific b rp is = grind arith
+  to_rp : (rp : Option ℕ) → option_map_or (λ n. n == address) rp false ≡ false
+      → leads_to i address (option_and_then (route s) rp) ≡ false
+  to_rp rp other = grind (arith, elsewhere)
 
   rp_elsewhere : (g : ℕ) → leads_to i address (rp_route s g) ≡ false
-  unfolding rp_route rp_of rp_among
-  rp_elsewhere g =
-      unless_specific (is_source_specific g) _
-      (to_rp (longest_match (λ (r : RpRange). r.prefix) s.ranges g)
-      (longest_fails (λ (r : RpRange). r.prefix) (λ (r : RpRange). r.rp.bits == address) g s.ranges no_rp))
+  unfolding rp_route rp_of
+  rp_elsewhere g = to_rp (rp_among s.ranges g) (rp_fails (λ n. n == address) g s.ranges no_rp)
 
   none_led : (ns : List ℕ) → list_any (λ n. n == address) ns ≡ false
       → filter (λ src. leads_to i address (route s src)) ns ≡ []

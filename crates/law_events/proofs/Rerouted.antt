@@ -1,6 +1,6 @@
 -- Where routes change, a source with the same routes isn't named: what goes, and which registers change, is of others.
 use Rattle.std.{proofs.{Common.{◌≡◌, ℕ, Bool, true, false, not, ◌&&◌, ◌||◌, cond, List, [], ◌∷◌, ◌++◌, filter, fold, map, Option, Some, None, option_and_then, option_map, refl, sym, ap, subst, ◌∙◌, eq-eqb, eqb-true, arith}, lemmas.{List.Folds.list_all-append, Bool.false_from_ne_true}}, specs.{Cmp.{first_so, second_so, Derive.both_true}, List.{AllByRecursion, find, list_all}}}
-use Rattle.pim_types.{specs.{declared.{config.{Route.Route, RpRange.RpRange}, fact.{AssertRow.AssertRow, Key.Key, RegisterRow.RegisterRow, RegisterState.RegisterState, SourceRow.SourceRow}}, Keys.{group_in, iface_in, is_star, names_source, source_in, star_key}}}
+use Rattle.pim_types.{specs.{declared.{config.{Route.Route, RpTable.RpTable}, fact.{AssertRow.AssertRow, Key.Key, RegisterRow.RegisterRow, RegisterState.RegisterState, SourceRow.SourceRow}}, Keys.{group_in, iface_in, is_star, names_source, source_in, star_key}}}
 use Rattle.pim_model.{specs.{Asserts.{assert_forgotten, could_assert_at, is_tracking_at, my_metric_at, without_spt_bit}, Clearing.{ClearAssert, ClearSptBit, Cleared, assert_must_go, assert_to_clear, clear, clear_all, clearable_count, cleared, first_by, is_assert_first, is_rpf_at, spt_must_go, spt_to_clear, to_clear}, declared.accepted.Accepted.Accepted, Desires.join_desired, Reach.{agrees_for_source, names_star}, Receivers.{is_exclude, is_exclude_among}, Registers.{could_register, registers_after_rps, settle_registers, settled_register}, Rows.{same_both, same_path}, Sets.{assert_star, is_kept_alive, joins_star}, State.State, Step.{change, rps_replaced}, Tables.{Table, drop_at, has_row, keys_in, put, row_at, rows_where, same_option}, Unicast.{route, route_among, rp_among, rp_of, rp_route}}}
 use Rattle.law_settled.{proofs.{ListLaws.{all_of_filter, first_of_all}, RowChanges.{changed_elsewhere, dropped_elsewhere, put_elsewhere}, TurnLaws.kept_to_the_end}}
 use Rattle.law_events.{specs.{Locality.{IsQuiet, is_register_settled}, Sees.{SeesSource, SeesStar}, Moved.{IsRerouted, RoutesReroute, RpsReroute, is_moved, is_of_place}, Named.{has_same_routes, has_same_rp, is_source_named, is_rerouted, named_by, named_where}}, proofs.{Clearing.all_beside, Registers.{all_keys, nothing_dropped}, Rows.{has_row_in_scope, row_in_scope}, SameMacros.{could_assert_same, could_assert_star_same, could_register_same, is_tracking_same, is_tracking_star_same, join_desired_same, my_metric_same, my_metric_star_same, rpf_at_same, rpf_rp_at_same}, SameRows.flags, Agreed.{SameSourceRows, SameStarRows, rows_within, same_with_rows}, Asked.asked_alone, FactsThere.{isnt_star, some_source}, Reached.{Keeps, one_cleared, same_is_unnamed}, NamedSameRows.{not_false, options, paths}, Unreached.{Around, alike, alike_sees, dr_around, kept_alive_same, nbr_around, neighbour_around}}}
@@ -416,7 +416,7 @@ module _ {R : Type 0} (f : Key × R → Key × R) (keys : (e : Key × R) → (f 
     mapped_elsewhere [] = refl
     mapped_elsewhere (x ∷ xs) = grind (arith, mapped_elsewhere xs, mapped_step)
 
-module _ (s : State) (ranges : List RpRange) where
+module _ (s : State) (ranges : RpTable) where
   abbrev as_joined : Key × RegisterRow → Key × RegisterRow
   as_joined e =
       cond (same_option (rp_of s (group_in e.0)) (rp_among ranges (group_in e.0))) e
@@ -430,7 +430,7 @@ module _ (s : State) (ranges : List RpRange) where
   unfolding has_same_routes has_same_rp rps_replaced rp_of
   row_stays g src calm e here = grind (arith, eqb-true)
 
-pub rps_reroute : (s : State) (w : ℕ) (ranges : List RpRange) → IsRerouted s (change s w (Accepted.Rps ranges)).state
+pub rps_reroute : (s : State) (w : ℕ) (ranges : RpTable) → IsRerouted s (change s w (Accepted.Rps ranges)).state
 unfolding change rps_replaced registers_after_rps rp_of
 rps_reroute s w ranges = grind (arith, same_keys, key_stays, mapped_elsewhere, row_stays)
 
@@ -438,7 +438,7 @@ pub rps_reroute_alone : RpsReroute
 unfolding change rps_replaced
 rps_reroute_alone s w ranges = (rps_reroute s w ranges, refl, refl)
 
-pub rps_name : (s : State) → IsQuiet s → (w : ℕ) (ranges : List RpRange)
+pub rps_name : (s : State) → IsQuiet s → (w : ℕ) (ranges : RpTable)
     → (let c : State = (change s w (Accepted.Rps ranges)).state in
     named_by s c ≡ named_where (is_rerouted s c) s c)
 rps_name s quiet w ranges =

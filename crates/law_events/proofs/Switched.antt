@@ -1,10 +1,10 @@
 -- An interface that goes up, or down with nothing on it, moves nothing where nothing with facts may be routed over it.
-use Rattle.std.{proofs.{Common.{◌≡◌, ◌==◌, ◌&&◌, ◌||◌, ◌++◌, ℕ, Bool, true, false, not, cond, List, [], ◌∷◌, length, Option, Some, None, is_none, is_some, option_and_then, option_map, refl, sym, ap, ◌∙◌, eq-eqb, eqb-true, arith}, lemmas.Bool.false_from_ne_true}, specs.{Cmp.Derive.both_true, List.{find, list_all, list_any}, Option.option_map_or, Prelude.{if◌then◌else◌, slice_get}}}
-use Rattle.pim_ip.{specs.{Ipv4.is_source_specific, Prefixes.{contains, longest_match}, declared.addr.Addr.Addr}}
-use Rattle.pim_types.{specs.{declared.{config.{IfaceId.IfaceId, Route.Route, RpRange.RpRange}, fact.{InterfaceRow.InterfaceRow, Key.Key}, path.Path.Path}, Keys.{group_in, iface_in, iface_key, is_on, same_key, source_in}}, proofs.Keys.equal_keys}
-use Rattle.pim_model.{specs.{declared.accepted.Accepted.Accepted, Querier.{querier_up, querying}, Rows.{same_both, same_path}, State.{Addressing, State}, Step.{change, iface_down, iface_up}, Tables.{Table, below, drop_where, has_row, keys_in, put, same_option}, Unicast.{is_on_link_among, link_among, path_if_up, route, route_among, route_path, routed_among, rp_among, rp_of, rp_route, subnet}, Upstream.fact_keys}}
+use Rattle.std.{proofs.{Common.{◌≡◌, ◌==◌, ◌&&◌, ◌||◌, ◌++◌, ℕ, Bool, true, false, not, cond, List, [], ◌∷◌, length, Option, Some, None, is_none, is_some, option_and_then, refl, sym, ap, ◌∙◌, eq-eqb, eqb-true, arith}, lemmas.Bool.false_from_ne_true}, specs.{Cmp.Derive.both_true, List.{find, list_all, list_any}, Option.option_map_or, Prelude.{slice_get}}}
+use Rattle.pim_ip.{specs.{Prefixes.{contains, longest_match}, declared.addr.Addr.Addr}}
+use Rattle.pim_types.{specs.{declared.{config.{Route.Route, RpTable.RpTable}, fact.{InterfaceRow.InterfaceRow, Key.Key}}, Keys.{iface_in, iface_key, is_on, same_key, source_in}}, proofs.Keys.equal_keys}
+use Rattle.pim_model.{specs.{declared.accepted.Accepted.Accepted, Querier.{querier_up, querying}, Rows.{same_both, same_path}, State.{Addressing, State}, Step.{change, iface_down, iface_up}, Tables.{Table, below, drop_where, has_row, keys_in}, Unicast.{any_rp, is_on_link_among, link_among, path_if_up, route, route_among, route_path, routed_among, rp_among, rp_of, rp_route, subnet}, Upstream.fact_keys}}
 use Rattle.law_settled.{proofs.RowLaws.{has_row_dropped, has_row_put}}
-use Rattle.law_events.{specs.{Moved.{IsRerouted, MovesAlone, is_touched_where_rerouted}, Named.{has_same_routes, has_same_rp}, Switched.{DownMovesNone, UpMovesNone, has_any_on, is_in_subnet, keys_beside, may_lead_over}}, proofs.{Nowhere.{longest_fails, neither_first, neither_second}, Sights.{options_same, paths_same}}}
+use Rattle.law_events.{specs.{Moved.{IsRerouted, MovesAlone, is_touched_where_rerouted}, Named.{has_same_routes, has_same_rp}, Switched.{DownMovesNone, UpMovesNone, has_any_on, is_in_subnet, may_lead_over}}, proofs.{Nowhere.{longest_fails, neither_first, neither_second, rp_fails}, Sights.{options_same, paths_same}}}
 
 -- ---- routes where one interface is up in only one of two tables
 
@@ -54,7 +54,7 @@ module _ (i : ℕ) (o c : State) (configured : o.configured ≡ c.configured) (r
   unfolding may_lead_over
   no_route = neither_first _ _ (neither_first _ _ none)
 
-  no_rp : list_any (λ (r : RpRange). is_in_subnet o i r.rp.bits) o.ranges ≡ false
+  no_rp : any_rp (is_in_subnet o i) o.ranges ≡ false
   unfolding may_lead_over
   no_rp = neither_second _ _ (neither_first _ _ none)
 
@@ -69,29 +69,22 @@ module _ (i : ℕ) (o c : State) (configured : o.configured ≡ c.configured) (r
       (longest_fails (λ (r : Route). r.prefix) (λ (r : Route). r.iface.number == i) address o.routes no_route)
       ∙ (λ j. route_among (configured j) c.interfaces (routes j) address)
 
-  rp_route_so : (best : Option RpRange) → option_map_or (λ (r : RpRange). is_in_subnet o i r.rp.bits) best false ≡ false
-      → option_and_then (route o) (option_map (λ (r : RpRange). r.rp.bits) best)
-      ≡ option_and_then (route c) (option_map (λ (r : RpRange). r.rp.bits) best)
+  rp_route_so : (rp : Option ℕ) → option_map_or (is_in_subnet o i) rp false ≡ false
+      → option_and_then (route o) rp ≡ option_and_then (route c) rp
   rp_route_so None e = refl
-  rp_route_so (Some r) e = same_route r.rp.bits e
-
-  unless_specific : (b : Bool) (rp : Option ℕ) → option_and_then (route o) rp ≡ option_and_then (route c) rp
-      → option_and_then (route o) (if b then None else rp) ≡ option_and_then (route c) (if b then None else rp)
-  unless_specific b rp e = grind arith
+  rp_route_so (Some rp) e = same_route rp e
 
   same_rp_route : (g : ℕ) → rp_route o g ≡ rp_route c g
-  unfolding rp_route rp_of rp_among
+  unfolding rp_route rp_of
   same_rp_route g =
-      unless_specific (is_source_specific g) _
-      (rp_route_so (longest_match (λ (r : RpRange). r.prefix) o.ranges g)
-      (longest_fails (λ (r : RpRange). r.prefix) (λ (r : RpRange). is_in_subnet o i r.rp.bits) g o.ranges no_rp))
-      ∙ ap (λ (rs : List RpRange). option_and_then (route c) (rp_among rs g)) ranges
+      rp_route_so (rp_among o.ranges g) (rp_fails (is_in_subnet o i) g o.ranges no_rp)
+      ∙ ap (λ (rs : RpTable). option_and_then (route c) (rp_among rs g)) ranges
 
   same_rp : (g : ℕ) → has_same_rp g o c ≡ true
   unfolding has_same_rp rp_of
   same_rp g =
       both_true
-      (options_same (rp_among o.ranges g) (rp_among c.ranges g) (ap (λ (rs : List RpRange). rp_among rs g) ranges))
+      (options_same (rp_among o.ranges g) (rp_among c.ranges g) (ap (λ (rs : RpTable). rp_among rs g) ranges))
       (paths_same (rp_route o g) (rp_route c g) (same_rp_route g))
 
   calm_source : (k : Key) → (is_some k.source && is_in_subnet o i (source_in k)) ≡ false → (o2 : Option Addr)

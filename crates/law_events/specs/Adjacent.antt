@@ -2,9 +2,9 @@
 -- the DR of an interface where it became that, or is no more: all that follows of it follows of the keys that touch that,
 -- of which there are facts.
 use Rattle.std.{specs.{List.{flat_map, list_all, list_any}, Option.option_map_or, Prelude.{Bool, List, None, Option, Some, [], false, filter, if◌then◌else◌, is_some, map, not, true, ℕ, ◌&&◌, ◌++◌, ◌==◌, ◌||◌, ◌≡◌, ◌∷◌}}}
-use Rattle.pim_types.{specs.{declared.{config.{Route.Route, RpRange.RpRange}, fact.{AssertRow.AssertRow, Key.Key, NeighbourRow.NeighbourRow}, path.Path.Path, timer.TimerKind.TimerKind}, Keys.{group_in, iface_in, is_on, is_star, names_source, source_in, source_key, star_key}}}
+use Rattle.pim_types.{specs.{declared.{config.Route.Route, fact.{AssertRow.AssertRow, Key.Key, NeighbourRow.NeighbourRow}, path.Path.Path, timer.TimerKind.TimerKind}, Keys.{group_in, iface_in, is_on, is_star, names_source, source_in, source_key, star_key}}}
 use Rattle.pim_wire.{specs.declared.hello.Hello.Hello as HelloValue}
-use Rattle.pim_model.{specs.{Cache.answers, Clearing.clear, Firing.settled, Hellos.{hello_holdtime_of, hello_received, is_lost_to, neighbour_due, neighbour_replaced}, Messages.Message, Neighbours.{is_dr, is_neighbour, nbr}, Reach.own_firing, Receivers.{is_exclude, local_receiver_include}, Registers.is_dr_of_path, Sets.is_winner, State.State, Tables.{Table, keys_in, same_bool, same_hop}, Timers.Ending, Unicast.{route, rp_route}, Upstream.{fact_keys, groups_of, sources_of}}}
+use Rattle.pim_model.{specs.{Cache.answers, Clearing.clear, Firing.settled, Hellos.{hello_holdtime_of, hello_received, is_lost_to, neighbour_due, neighbour_replaced}, Messages.Message, Neighbours.{is_dr, is_neighbour, nbr}, Reach.own_firing, Receivers.{is_exclude, local_receiver_include}, Registers.is_dr_of_path, Sets.is_winner, State.State, Tables.{Table, keys_in, same_bool, same_hop}, Timers.Ending, Unicast.{any_rp, route, rp_route}, Upstream.{fact_keys, groups_of, sources_of}}}
 use Rattle.law_events.{specs.{Locality.{AgreesBut, IsQuiet, own_settled, touched_clear, touched_registers, touching}, Named.is_source_named}}
 
 -- ---- any change of neighbours
@@ -114,11 +114,12 @@ led_keys s i address = flat_map (led_of_group s i address) (groups_of (fact_keys
 abbrev pub lost_keys : State → ℕ → ℕ → List Key
 lost_keys s i address = keys_in (filter (is_lost_to i address) s.asserts)
 
--- a path may lead to the address: a route has it as its next hop, or a range as its RP, or a fact as its source
+-- a path may lead to the address: a route has it as its next hop, or a range or a candidate as its RP, or a fact as its
+-- source
 unfoldable pub may_lead : State → ℕ → Bool
 may_lead s address =
     list_any (λ (r : Route). r.next_hop.bits == address) s.routes
-    || list_any (λ (r : RpRange). r.rp.bits == address) s.ranges
+    || any_rp (λ rp. rp == address) s.ranges
     || list_any (λ k. is_some k.source && (source_in k == address)) (fact_keys s)
 
 -- No path leads to an address for which `may_lead` is false.

@@ -1,7 +1,7 @@
 -- What new routes or new RP ranges move: (*,G) where RP(G) or the route to it differs, and a source of a group where
 -- the route to the source differs. All that follows of them follows of what they move that has facts.
 use Rattle.std.{specs.{List.{flat_map, list_all, list_any}, Prelude.{Bool, List, [], false, filter, if◌then◌else◌, is_some, map, not, true, ℕ, ◌&&◌, ◌==◌, ◌||◌, ◌≡◌, ◌∷◌}}}
-use Rattle.pim_types.{specs.{declared.{config.{Route.Route, RpRange.RpRange}, fact.Key.Key}, Keys.{group_in, is_star, names_source, source_in, source_key, star_key}}}
+use Rattle.pim_types.{specs.{declared.{config.{Route.Route, RpTable.RpTable}, fact.Key.Key}, Keys.{group_in, is_star, names_source, source_in, source_key, star_key}}}
 use Rattle.pim_model.{specs.{Clearing.clear, declared.accepted.Accepted.Accepted, Firing.settled, Messages.Message, Rows.{same_both, same_path}, State.State, Step.change, Tables.{Table, keys_in, rows_where, same_option}, Unicast.{route, rp_of}, Upstream.{fact_keys, groups_of, sources_of}}}
 use Rattle.law_events.{specs.{Locality.{IsQuiet, own_settled, touched_clear, touched_registers, touching}, Named.{has_same_routes, has_same_rp, is_source_named, is_rerouted}}}
 
@@ -33,7 +33,7 @@ abbrev pub RoutesReroute : Type 0
 RoutesReroute = (s : State) (w : ℕ) (routes : List Route) → IsReroutedAlone s (change s w (Accepted.Routes routes)).state
 
 abbrev pub RpsReroute : Type 0
-RpsReroute = (s : State) (w : ℕ) (ranges : List RpRange) → IsReroutedAlone s (change s w (Accepted.Rps ranges)).state
+RpsReroute = (s : State) (w : ℕ) (ranges : RpTable) → IsReroutedAlone s (change s w (Accepted.Rps ranges)).state
 
 -- ---- what is moved
 
@@ -78,7 +78,7 @@ RoutesMove = (s : State) (w : ℕ) (routes : List Route)
     → (let c : State = (change s w (Accepted.Routes routes)).state in MovesAlone (keys_by_routes s c) s c)
 
 abbrev pub RpsMove : Type 0
-RpsMove = (s : State) (w : ℕ) (ranges : List RpRange)
+RpsMove = (s : State) (w : ℕ) (ranges : RpTable)
     → (let c : State = (change s w (Accepted.Rps ranges)).state in MovesAlone (keys_by_rps s c) s c)
 
 -- ---- what follows

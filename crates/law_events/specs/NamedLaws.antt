@@ -1,6 +1,6 @@
 -- What the reach of an event implies for what the macros read, and for the sources that are named.
 use Rattle.std.{specs.{List.{list_all, list_any, Sorted.IsStrictlySortedBy}, Prelude.{List, Some, false, length, true, ℕ, ◌==◌, ◌≡◌, ◌≤◌}}}
-use Rattle.pim_types.{specs.{declared.{config.{Route.Route, RpRange.RpRange}, event.Event.Event, fact.Key.Key}, Keys.{key_cmp, same_key, source_key}}}
+use Rattle.pim_types.{specs.{declared.{config.{Route.Route, RpTable.RpTable}, event.Event.Event, fact.Key.Key}, Keys.{key_cmp, same_key, source_key}}}
 use Rattle.pim_model.{specs.{Clearing.clear, declared.accepted.Accepted.Accepted, Firing.{fire_all, fire_once}, Limits.most_ifaces, Reach.{differs_among, event_reach, agrees_for_source, keeps_neighbours, own_firing, passes, reach, reach_of, told_all}, Rows.{same_both, same_register_state}, Sets.{Set, is_kept_alive, register_state}, State.State, Step.{change, done, step, taken}, Tables.has_row, Timers.Ending}}
 use Rattle.law_settled.{specs.Ready.IsLawful}
 use Rattle.law_events.{specs.{Events.touched_by_event, Locality.{AgreesBut, IsQuiet, touching}, Sees.SeesSource, Touches.{isnt_neighbour, touched_by}, Calm.{is_calm, is_calm_event}, Keeps.KeepsAnswers, Named.{IsMask, event_named, is_source_named, is_rerouted, named_by, named_of, named_where, same_set}}}
@@ -88,7 +88,7 @@ RoutesName = (s : State) → IsQuiet s → (w : ℕ) (routes : List Route)
     named_by s c ≡ named_where (is_rerouted s c) s c)
 
 abbrev pub RpsName : Type 0
-RpsName = (s : State) → IsQuiet s → (w : ℕ) (ranges : List RpRange)
+RpsName = (s : State) → IsQuiet s → (w : ℕ) (ranges : RpTable)
     → (let c : State = (change s w (Accepted.Rps ranges)).state in
     named_by s c ≡ named_where (is_rerouted s c) s c)
 

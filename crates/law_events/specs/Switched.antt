@@ -1,9 +1,9 @@
 -- An interface that goes up, or goes down with nothing on it, and over which nothing that has facts may be routed, moves
 -- nothing.
-use Rattle.std.{specs.{List.list_any, Option.option_map_or, Prelude.{Bool, List, [], false, is_some, not, slice_get, true, ℕ, ◌&&◌, ◌++◌, ◌==◌, ◌||◌, ◌≡◌}}}
+use Rattle.std.{specs.{List.list_any, Option.option_map_or, Prelude.{Bool, List, [], false, is_some, slice_get, true, ℕ, ◌&&◌, ◌++◌, ◌==◌, ◌||◌, ◌≡◌}}}
 use Rattle.pim_ip.{specs.Prefixes.contains}
-use Rattle.pim_types.{specs.{declared.{config.{IfaceId.IfaceId, Route.Route, RpRange.RpRange}, fact.Key.Key}, Keys.{is_on, source_in}}}
-use Rattle.pim_model.{specs.{declared.accepted.Accepted.Accepted, State.State, Step.change, Tables.keys_in, Unicast.subnet, Upstream.fact_keys}}
+use Rattle.pim_types.{specs.{declared.{config.{IfaceId.IfaceId, Route.Route}, fact.Key.Key}, Keys.{is_on, source_in}}}
+use Rattle.pim_model.{specs.{declared.accepted.Accepted.Accepted, State.State, Step.change, Tables.keys_in, Unicast.{any_rp, subnet}, Upstream.fact_keys}}
 use Rattle.law_events.{specs.Moved.MovesAlone}
 
 -- An interface goes up or down.
@@ -16,11 +16,12 @@ is_switch a = false
 abbrev pub is_in_subnet : State → ℕ → ℕ → Bool
 is_in_subnet s i address = option_map_or (λ c. contains (subnet c) address) (slice_get s.configured.interfaces i) false
 
--- Something may be routed over the interface: a route is over it, or its subnet has the RP of a range or a fact's source.
+-- Something may be routed over the interface: a route is over it, or its subnet has the RP of a range or a candidate, or a
+-- fact's source.
 unfoldable pub may_lead_over : State → ℕ → Bool
 may_lead_over s i =
     list_any (λ (r : Route). r.iface.number == i) s.routes
-    || list_any (λ (r : RpRange). is_in_subnet s i r.rp.bits) s.ranges
+    || any_rp (is_in_subnet s i) s.ranges
     || list_any (λ k. is_some k.source && is_in_subnet s i (source_in k)) (fact_keys s)
 
 -- The keys of what goes with an interface that goes down, but its own row and its querier.

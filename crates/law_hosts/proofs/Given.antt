@@ -82,6 +82,7 @@ module _ (x : Split) (guests : PlaneRows) where
   given_for_core b (EventKind.Down i) f = f
   given_for_core b (EventKind.Routes routes) f = f
   given_for_core b (EventKind.Rps rps) f = f
+  given_for_core b (EventKind.RpCandidates candidates) f = f
 
   -- what the plane takes itself leaves the core
   module _ (w : Way) (e : Event) where

@@ -4,7 +4,7 @@ use Rattle.pim_ip.{specs.{Ipv4.{Packet, all_pim_routers, frame_limit, ipv4_readi
 use Rattle.pim_types.{specs.declared.{config.IfaceId.IfaceId, event.EventKind.EventKind, outcome.{Ignored.Ignored, Stop.Stop}}}
 use Rattle.pim_wire.{specs.{Messages.pim_reading, declared.view.PimView.PimView}}
 use Rattle.igmp_wire.{specs.{Messages.igmp_reading, Reports.report_text, Values.Record, declared.view.IgmpView.IgmpView}}
-use Rattle.pim_model.{specs.{declared.accepted.Accepted.Accepted, Judging.{Judged, advance_judged, assert_judged, data_judged, down_judged, frame_judged, hello_judged, igmp_judged, igmp_message_judged, ignore_if, join_prune_judged, judged, of_read, packet_judged, pim_judged, pim_message_judged, pim_to_me_judged, refuse_if, register_judged, register_stop_judged, routes_judged, rps_judged, unicast_judged, unicast_packet_judged, up_judged, ◌>>◌}, State.State, Tables.Table}}
+use Rattle.pim_model.{specs.{declared.accepted.Accepted.Accepted, Judging.{Judged, advance_judged, assert_judged, candidates_judged, data_judged, down_judged, frame_judged, hello_judged, igmp_judged, igmp_message_judged, ignore_if, join_prune_judged, judged, of_read, packet_judged, pim_judged, pim_message_judged, pim_to_me_judged, refuse_if, register_judged, register_stop_judged, routes_judged, rps_judged, unicast_judged, unicast_packet_judged, up_judged, ◌>>◌}, State.State, Tables.Table}}
 use Rattle.law_settled.{proofs.ListLaws.by_cond}
 use Rattle.igmp_older.{specs.{Joined.{FrontedRouter, bytes_given, kind_given, rows_of}, Older.older_reading, Open.IsMildAbout, Presence.mode_at, Translation.{Translation, are_left_whole, message_of, message_translated, packet_given, packet_translated, report_translated, translation}, declared.{mode.{Mode.Mode, PresentRow.PresentRow}, older.Older.Older, setting.OlderHosts.OlderHosts}}, proofs.{MildLaws.all_whole_mild, TakenLaws.{IsGivable, givable, given_packet, message_reads, older_unread, packet_reads}}}
 use Rattle.law_hosts.{specs.Held.KindHolds}
@@ -136,5 +136,5 @@ module _ (t i g : ℕ) where
 
   pub all_barred : (b : FrontedRouter) (kind : EventKind) → (mode_at (rows_of b) b.state.present i g ≡ Mode.Three → ⊥) → KindHolds t i kind
       → IsBarred (judged b.state (kind_given b kind))
-  unfolding judged kind_given up_judged down_judged routes_judged rps_judged advance_judged
+  unfolding judged kind_given up_judged down_judged routes_judged rps_judged candidates_judged advance_judged
   all_barred b kind other f = grind (arith, bytes_barred, refuse_any, accepted, unicast_barred, ignore_any)

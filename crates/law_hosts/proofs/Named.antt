@@ -4,7 +4,7 @@ use Rattle.pim_ip.{specs.{Ipv4.{Packet, ipv4_reading, protocol_igmp}, declared.r
 use Rattle.pim_types.{specs.declared.{config.IfaceId.IfaceId, event.EventKind.EventKind, outcome.{Ignored.Ignored, Stop.Stop, Verdict.Verdict}}}
 use Rattle.pim_wire.{specs.{Messages.pim_reading, declared.view.PimView.PimView}}
 use Rattle.igmp_wire.{specs.{Messages.igmp_reading, Values.Record, declared.view.IgmpView.IgmpView}}
-use Rattle.pim_model.{specs.{declared.accepted.Accepted.Accepted, Cause.if_done, Judging.{Judged, advance_judged, assert_judged, data_judged, down_judged, frame_judged, hello_judged, igmp_judged, igmp_message_judged, ignore_if, join_prune_judged, judged, of_read, packet_judged, pim_judged, pim_message_judged, pim_to_me_judged, refuse_if, register_judged, register_stop_judged, routes_judged, rps_judged, unicast_judged, unicast_packet_judged, up_judged, ◌>>◌}, State.State, Tables.Table}}
+use Rattle.pim_model.{specs.{declared.accepted.Accepted.Accepted, Cause.if_done, Judging.{Judged, advance_judged, assert_judged, candidates_judged, data_judged, down_judged, frame_judged, hello_judged, igmp_judged, igmp_message_judged, ignore_if, join_prune_judged, judged, of_read, packet_judged, pim_judged, pim_message_judged, pim_to_me_judged, refuse_if, register_judged, register_stop_judged, routes_judged, rps_judged, unicast_judged, unicast_packet_judged, up_judged, ◌>>◌}, State.State, Tables.Table}}
 use Rattle.law_settled.{proofs.ListLaws.by_cond}
 use Rattle.igmp_older.{specs.{Naming.{groups_named, groups_of_packet, groups_read}, Translation.{Translation, message_of, message_translated, of_reading, older_translated, packet_given, packet_translated, read_translated, report_translated, translation}, declared.{mode.{Mode.Mode, PresentRow.PresentRow}, older.Older.Older, setting.OlderHosts.OlderHosts}}, proofs.TakenLaws.{IsGivable, message_reads, packet_reads}}
 use Rattle.law_hosts.{specs.Staying.KeepsTimer}
@@ -98,7 +98,7 @@ module _ (t i g : ℕ) where
   KindLeaves kind = Unit {0}
 
   pub kind_left : (s : State) (kind : EventKind) → KindLeaves kind → IsLeft (judged s kind)
-  unfolding judged up_judged down_judged routes_judged rps_judged advance_judged
+  unfolding judged up_judged down_judged routes_judged rps_judged candidates_judged advance_judged
   kind_left s kind f = grind (arith, frame_left, refuse_any, accepted, unicast_left, ignore_any)
 
 -- ---- the group of an older message

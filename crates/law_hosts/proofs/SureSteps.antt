@@ -146,6 +146,7 @@ module _ (b : FrontedRouter) (w : ℕ) (rest : IsSettled b.state) (f : Fine (IsS
   done_rows (EventKind.Up j) done answered = same_rows (EventKind.Up j) (λ t i g. tt)
   done_rows (EventKind.Routes routes) done answered = same_rows (EventKind.Routes routes) (λ t i g. tt)
   done_rows (EventKind.Rps rps) done answered = same_rows (EventKind.Rps rps) (λ t i g. tt)
+  done_rows (EventKind.RpCandidates candidates) done answered = same_rows (EventKind.RpCandidates candidates) (λ t i g. tt)
 
   step_rows : (kind : EventKind) → Fine (IsSureRow (state_after kind)) (joined_step b (event kind)).1.present.rows
   unfolding joined_step known_if

@@ -3,7 +3,7 @@ use Rattle.std.{proofs.Common.{◌≡◌, ℕ, Bool, List, Ok, arith}}
 use Rattle.pim_ip.{specs.{Ipv4.Packet, declared.refusal.Refusal.Refusal}}
 use Rattle.pim_types.{specs.declared.{config.IfaceId.IfaceId, event.EventKind.EventKind}}
 use Rattle.pim_wire.{specs.declared.view.PimView.PimView}
-use Rattle.pim_model.{specs.{declared.accepted.Accepted.Accepted, Judging.{advance_judged, assert_judged, data_judged, down_judged, frame_judged, hello_judged, igmp_judged, igmp_message_judged, join_prune_judged, judged, packet_judged, pim_judged, pim_message_judged, pim_to_me_judged, refuse_if, register_stop_judged, routes_judged, unicast_judged, unicast_packet_judged, up_judged, ◌>>◌}, State.State, Unicast.rp_of}}
+use Rattle.pim_model.{specs.{declared.accepted.Accepted.Accepted, Judging.{advance_judged, assert_judged, candidates_judged, data_judged, down_judged, frame_judged, hello_judged, igmp_judged, igmp_message_judged, join_prune_judged, judged, packet_judged, pim_judged, pim_message_judged, pim_to_me_judged, refuse_if, register_stop_judged, routes_judged, rps_judged, unicast_judged, unicast_packet_judged, up_judged, ◌>>◌}, State.State, Unicast.rp_of}}
 use Rattle.law_plane.{proofs.Ends.{Ends, with_ends}}
 
 module _ (f : Ends) (s : State) (m : ℕ) where
@@ -42,5 +42,5 @@ module _ (f : Ends) (s : State) (m : ℕ) where
   -- a data packet is one whatever the timers
   pub data_alike : (kind : EventKind) (i : IfaceId) (p : Packet) → judged s kind ≡ Ok (Accepted.Data i p)
       → judged now kind ≡ Ok (Accepted.Data i p)
-  unfolding judged advance_judged up_judged down_judged routes_judged
+  unfolding judged advance_judged up_judged down_judged routes_judged rps_judged candidates_judged
   data_alike kind i p e = grind (arith, no_data, frame_alike, unicast_alike)

@@ -1,6 +1,6 @@
 -- An event's own change leaves a fine state, and so does what follows from it.
 use Rattle.std.{proofs.{Common.{ℕ, ◌+◌, ◌==◌, Bool, List, true, false, arith, ◌∙◌, ◌≡◌, refl, ap, not, ◌&&◌}, lemmas.Bool.{or_left, or_right}}}
-use Rattle.pim_types.{proofs.Keys.same_key_same, specs.{declared.{config.RpRange.RpRange, fact.InterfaceRow.InterfaceRow}, Keys.{iface_key, is_on, iface_in, same_key}}}
+use Rattle.pim_types.{proofs.Keys.same_key_same, specs.{declared.{config.RpTable.RpTable, fact.InterfaceRow.InterfaceRow}, Keys.{iface_key, is_on, iface_in, same_key}}}
 use Rattle.pim_wire.{specs.{RegisterParts.{is_null, registered_group, registered_source}, Values.Register}}
 use Rattle.pim_model.{specs.{declared.accepted.Accepted.Accepted, Forwarding.{Forwarded, register_received}, State.{State, is_up}, Step.{Change, change, decapsulated, done, iface_down, iface_up, rps_replaced}, Tables.{delay_in, drop_where, put, has_row}}}
 use Rattle.law_settled.{proofs.{RowLaws.{has_row_put, has_row_dropped}, Parts.{Interfaces, JoinTimers, OverrideTimers, Part, Registers, Sources, rows}, Asserts.assert_fine, Forwarding.{after_rps_fine, forwarded_fine, register_received_fine, register_stop_fine}, FineTables.{fine_put, fine_dropped, fine_more}, Hellos.{hello_fine, some_delay}, Downstream.to_me_fine, Judgements.IsHere, LateEnds.late_by, Querier.{querier_up_fine, query_fine, report_fine}, FineStates.{Lateness, Good, IsFine, with_ranges, rows_fine, with_routes, Anyhow, FineAt, good_if}, Upstream.settled_fine, SeenMessages.seen_fine}}
@@ -75,7 +75,7 @@ module _ (m : ℕ) (late up : ℕ → Bool) (lateness : Lateness m late) (s : St
 
   -- ---- RP ranges and Registers
 
-  rps_fine : (rps : List RpRange) → IsFine m late up (rps_replaced s rps)
+  rps_fine : (rps : RpTable) → IsFine m late up (rps_replaced s rps)
   unfolding rps_replaced
   rps_fine rps =
       let after : State = record s { ranges = rps } in

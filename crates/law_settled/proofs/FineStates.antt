@@ -1,7 +1,7 @@
 -- A state that is fine: the keys of each table rise, its entries are under keys of their kind, no interval is 0, and
 -- what ends ends late, in a sense that is open here.
 use Rattle.std.{proofs.{Common.{◌≡◌, ℕ, List, ◌<◌, ◌≤◌, Bool, true, ◌||◌, ◌∙◌, is_some, Option, Some, None, refl, subst, cond, arith}, lemmas.Option.cond_some}, specs.List.AllByRecursion}
-use Rattle.pim_types.{specs.{declared.{config.{Route.Route, RpRange.RpRange}, fact.{InterfaceRow.InterfaceRow, Key.Key, QuerierRow.QuerierRow, SourceRow.SourceRow}}, Keys.{iface_in, iface_key}}}
+use Rattle.pim_types.{specs.{declared.{config.{Route.Route, RpTable.RpTable}, fact.{InterfaceRow.InterfaceRow, Key.Key, QuerierRow.QuerierRow, SourceRow.SourceRow}}, Keys.{iface_in, iface_key}}}
 use Rattle.pim_model.{specs.{State.{State, is_up}, Tables.{Table, has_row, change_row, drop_at, drop_where, put}, Timers.{register_end, next_query, other_querier_end}}}
 use Rattle.law_settled.{proofs.{ListLaws.{each_more, by_cond}, Intervals.IsFirm, Parts.{Part, Row, rows, with_rows, ends_of, is_sound, interfaces_stay, settings_stay, present_stays, IsBesideInterfaces, Interfaces, Neighbours, Queriers, GroupRecords, SourceRecords, GroupRepeats, SourceRepeats, Sendings, Downstreams, Asserts, JoinTimers, OverrideTimers, Sources, Registers}, FineTables.{Fine, fine_drop_at, fine_drop_where, fine_put, fine_replaced, fine_replaced_by}}, specs.Laws.{is_under_star, is_under_source, is_querier_entry}}
 
@@ -215,7 +215,7 @@ module _ (m : ℕ) (late up : ℕ → Bool) where
         go Interfaces = f.tables Interfaces
         go part = f.tables part
 
-    pub with_ranges : (x : List RpRange) → IsFine (record s { ranges = x })
+    pub with_ranges : (x : RpTable) → IsFine (record s { ranges = x })
     with_ranges x = record { firm = f.firm; present = f.present; ups = f.ups; tables = go }
       where
         go : (part : Part) → FineAt part (record s { ranges = x })

@@ -1,10 +1,10 @@
 -- What is accepted of a frame came on a configured interface that is up, and time moves by Advance alone.
 use Rattle.std.{proofs.{Common.{ℕ, ◌<◌, Bool, true, false, nat_le, not, List, Ok, Err, Result, ◌≡◌, subst, arith}, lemmas.Bool.Decides.nat_tests}}
 use Rattle.pim_ip.{specs.{declared.{addr.Addr.Addr, refusal.Refusal.Refusal}, Ipv4.Packet}}
-use Rattle.pim_types.{specs.declared.{config.{IfaceId.IfaceId, Route.Route, RpRange.RpRange}, event.EventKind.EventKind, outcome.{Ignored.Ignored, Stop.Stop}}}
+use Rattle.pim_types.{specs.declared.{config.{IfaceId.IfaceId, Route.Route, RpCandidate.RpCandidate, RpRange.RpRange}, event.EventKind.EventKind, outcome.{Ignored.Ignored, Stop.Stop}}}
 use Rattle.pim_wire.{specs.{Values.{JoinPrune, Register}, declared.{assert.Assert.Assert as AssertMessage, hello.Hello.Hello as HelloValue, register.RegisterStop.RegisterStop, view.PimView.PimView}}}
 use Rattle.igmp_wire.{specs.{Values.{Query, Record}, declared.view.IgmpView.IgmpView}}
-use Rattle.pim_model.{specs.{declared.accepted.Accepted.Accepted, Judging.{Judged, advance_judged, assert_judged, data_judged, down_judged, frame_judged, hello_judged, igmp_accepted, igmp_judged, igmp_message_judged, ignore_if, join_prune_judged, judged, of_read, packet_judged, pim_judged, pim_message_judged, pim_to_me_judged, refuse_if, register_judged, register_stop_judged, routes_judged, rps_judged, unicast_judged, unicast_packet_judged, up_judged, ◌>>◌}, State.{State, iface_count, is_up}}}
+use Rattle.pim_model.{specs.{declared.accepted.Accepted.Accepted, Judging.{Judged, advance_judged, assert_judged, candidates_judged, data_judged, down_judged, frame_judged, hello_judged, igmp_accepted, igmp_judged, igmp_message_judged, ignore_if, join_prune_judged, judged, of_read, packet_judged, pim_judged, pim_message_judged, pim_to_me_judged, refuse_if, register_judged, register_stop_judged, routes_judged, rps_judged, unicast_judged, unicast_packet_judged, up_judged, ◌>>◌}, State.{State, iface_count, is_up}, Unicast.{with_candidates, with_ranges}}}
 use Rattle.law_settled.{proofs.ListLaws.by_cond, specs.Ready.IsTimeless}
 
 -- what is accepted passes a test that each kind of message passes
@@ -112,13 +112,15 @@ module _ (P : Accepted → Type 0) where
     pub downs : (i : IfaceId) → P (Accepted.Down i)
     pub moments : (m : ℕ) → kind ≡ EventKind.Advance m → P (Accepted.Advance m)
     pub routes : (routes : List Route) → kind ≡ EventKind.Routes routes → P (Accepted.Routes routes)
-    pub ranges : (ranges : List RpRange) → kind ≡ EventKind.Rps ranges → P (Accepted.Rps ranges)
+    pub ranges : (ranges : List RpRange) → kind ≡ EventKind.Rps ranges → P (Accepted.Rps (with_ranges s.ranges ranges))
+    pub candidates : (candidates : List RpCandidate) → kind ≡ EventKind.RpCandidates candidates
+        → P (Accepted.Rps (with_candidates s.ranges candidates))
 
   within : (n i : ℕ) → nat_le n i ≡ false → i < n
   within n i e = grind (arith, nat_tests, e)
 
   pub kind_by : (s : State) (kind : EventKind) → Admits s kind → IsJudged (judged s kind)
-  unfolding judged frame_judged unicast_judged up_judged down_judged routes_judged rps_judged advance_judged
+  unfolding judged frame_judged unicast_judged up_judged down_judged routes_judged rps_judged candidates_judged advance_judged
   kind_by s kind f =
       grind (arith, refuse_then, accepted, held_then, up_then, read_then, packet_is_judged, within, unicast_packet_is_judged, ignore_then)
 
@@ -154,4 +156,5 @@ kind_is_judged s kind timeless =
       moments = λ m e. subst IsTimeless e timeless;
       routes = λ routes e. tt;
       ranges = λ ranges e. tt;
+      candidates = λ candidates e. tt;
     })

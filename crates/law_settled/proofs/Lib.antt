@@ -48,4 +48,5 @@ pub mod SettledStates
 pub mod LawfulFiring
 pub mod Steps
 pub mod Unsettled
+mod ChosenRps
 pub mod ReadPackets

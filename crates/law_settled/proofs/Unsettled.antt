@@ -1,7 +1,7 @@
 -- What follows of a change leaves most tables alone: registers are settled, asserts and SPTbits cleared, timers moved
 -- upstream, and Hellos paid.
 use Rattle.std.{proofs.Common.{◌≡◌, ◌∙◌, ℕ, List, refl, ap}}
-use Rattle.pim_types.{specs.declared.{config.{Route.Route, RpRange.RpRange, Settings.Settings}, fact.{AssertRow.AssertRow, DownstreamRow.DownstreamRow, GroupRecordRow.GroupRecordRow, GroupRepeatRow.GroupRepeatRow, NeighbourRow.NeighbourRow, RegisterRow.RegisterRow, SendingRow.SendingRow, SourceRecordRow.SourceRecordRow, SourceRepeatRow.SourceRepeatRow, SourceRow.SourceRow}}}
+use Rattle.pim_types.{specs.declared.{config.{Route.Route, RpTable.RpTable, Settings.Settings}, fact.{AssertRow.AssertRow, DownstreamRow.DownstreamRow, GroupRecordRow.GroupRecordRow, GroupRepeatRow.GroupRepeatRow, NeighbourRow.NeighbourRow, RegisterRow.RegisterRow, SendingRow.SendingRow, SourceRecordRow.SourceRecordRow, SourceRepeatRow.SourceRepeatRow, SourceRow.SourceRow}}}
 use Rattle.pim_model.{specs.{Asserts.{assert_forgotten, without_spt_bit}, Clearing.clear, Firing.settled, Messages.Message, Registers.settle_registers, State.{Addressing, State}, Tables.Table, Upstream.{moved_join_timer, moved_override_timer, upstream}, Writing.write_all}}
 use Rattle.law_settled.{proofs.SettlingLaws.{kept_by_clearing, kept_by_telling}}
 
@@ -10,7 +10,7 @@ pub record Unsettled : Type 0 where
   pub configured : Addressing
   pub present : ℕ
   pub routes : List Route
-  pub ranges : List RpRange
+  pub ranges : RpTable
   pub neighbours : Table NeighbourRow
   pub group_records : Table GroupRecordRow
   pub source_records : Table SourceRecordRow

@@ -1,3 +1,4 @@
 pub mod Laws
+pub mod Choices
 pub mod Rows
 pub mod Ready

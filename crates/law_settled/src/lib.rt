@@ -3,5 +3,6 @@
 //! nothing to do.
 #![tactic(auto)]
 
+pub mod choices;
 pub mod laws;
 pub mod settled;

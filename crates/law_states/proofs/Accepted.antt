@@ -1,11 +1,11 @@
 -- Every event leaves a state under a configuration that is accepted.
 use Rattle.std.{proofs.Common.{◌≡◌, ℕ, ◌+◌, ◌-◌, Bool, true, false, not, List, [], length, Ok, Err, refl, sym, ap, subst, ◌∙◌}, specs.{List.list_all, Prelude.Result}}
 use Rattle.pim_ip.{specs.{Ipv4.is_unicast, Tests.{expect, ◌>>◌}, declared.refusal.Refusal.Refusal}}
-use Rattle.pim_types.{specs.{Keys.star_key, declared.{config.{Config.Config, InterfaceConfig.InterfaceConfig, Route.Route, RpRange.RpRange}, event.{Event.Event, EventKind.EventKind}, outcome.Stop.Stop}}}
-use Rattle.pim_model.{specs.{Clearing.clear, Firing.{fire_all, fire_instant, fire_once, fired, settled}, Full.is_full, Judging.{Judged, judged, refuse_if, routes_judged, rps_judged, ◌>>◌ as ◌>>>◌}, Limits.{are_apart, are_own_addresses, are_routes, are_rps, config_test, is_between, is_delay_config, is_querier_config, most_ifaces}, Messages.Message, Reach.own_firing, State.{State, opening, settings_of}, Step.{Answered, advanced, change, concluded, done, step, stopped, taken, taken_unless_full}, Timers.{Ending, next_due, timers}, Upstream.upstream, declared.accepted.Accepted.Accepted}}
+use Rattle.pim_types.{specs.{Keys.star_key, declared.{config.{Config.Config, InterfaceConfig.InterfaceConfig, Route.Route, RpRange.RpRange, RpCandidate.RpCandidate}, event.{Event.Event, EventKind.EventKind}, outcome.Stop.Stop}}}
+use Rattle.pim_model.{specs.{Clearing.clear, Firing.{fire_all, fire_instant, fire_once, fired, settled}, Full.is_full, Judging.{Judged, judged, refuse_if, routes_judged, candidates_judged, rps_judged, ◌>>◌ as ◌>>>◌}, Limits.{are_apart, are_own_addresses, are_routes, are_rps, config_test, is_between, is_delay_config, is_querier_config, most_ifaces, are_candidates, are_distinct_candidates}, Messages.Message, Reach.own_firing, State.{State, opening, settings_of}, Step.{Answered, advanced, change, concluded, done, step, stopped, taken, taken_unless_full}, Timers.{Ending, next_due, timers}, Upstream.upstream, declared.accepted.Accepted.Accepted, Unicast.{with_candidates, with_ranges}}}
 use Rattle.law_settled.{proofs.{TurnLaws.kept_to_the_end, StepLaws.kept_by_run, UnchangedLaws.full_or_taken, Judgements.IsJudged}}
 use Rattle.law_events.{specs.{Locality.{AgreesBut, touching}, Scopes.scope}, proofs.{QuietStates.{frame_packets, frame_upstream}, Touches.agrees_then, Configured.{Ground, change_ground, firing_ground, ground, ground_after}, Reached.{Keeps, clearing_keeps}}}
-use Rattle.law_states.{specs.{Reload.config_of, Restart.{AcceptedStays, SavedIsAccepted}}, proofs.Others.{IsOther, other_judged}}
+use Rattle.law_states.{specs.{Reload.config_of, Restart.{AcceptedStays, CandidatesStayAccepted, SavedCandidatesAreAccepted, SavedIsAccepted}}, proofs.Others.{IsOther, other_judged}}
 
 -- ---- what follows of a change leaves the ground
 
@@ -57,7 +57,7 @@ config_by g = record {
   query_response_interval = g.settings.query_response_interval;
   last_member_query_interval = g.settings.last_member_query_interval;
   routes = g.routes;
-  rps = g.ranges;
+  rps = g.ranges.static_ranges;
   addresses = g.configured.addresses;
 }
 
@@ -94,35 +94,41 @@ ninth true true true true true true true true false n j ok t = absurd cc
 ninth true true true true true true true true true false j ok t = absurd cc
 ninth true true true true true true true true true true j ok t = ap (λ (k : Bool). tests true true true true true true true true k true) t
 
-with_routes : (g : Ground) (rs : List Route) → IsFine g → are_routes g.configured rs ≡ true → IsFine (record g { routes = rs })
+other_routes : (g : Ground) (rs : List Route) → IsFine g → are_routes g.configured rs ≡ true → IsFine (record g { routes = rs })
 unfolding config_test is_querier_config
-with_routes g rs fine e =
-    eighth (is_between 1 most_ifaces (length g.configured.interfaces)) (list_all (λ (x : InterfaceConfig). is_unicast x.address.bits) g.configured.interfaces) (list_all (λ (x : InterfaceConfig). is_between 1 31 x.length) g.configured.interfaces) (are_apart g.configured.interfaces) (is_between 1 1000000 g.settings.limit) (is_querier_config (config_by g)) (list_all is_delay_config g.configured.interfaces) (are_routes g.configured g.routes) (are_rps g.ranges) (are_own_addresses g.configured) (are_routes g.configured rs) fine e
+other_routes g rs fine e =
+    eighth (is_between 1 most_ifaces (length g.configured.interfaces)) (list_all (λ (x : InterfaceConfig). is_unicast x.address.bits) g.configured.interfaces) (list_all (λ (x : InterfaceConfig). is_between 1 31 x.length) g.configured.interfaces) (are_apart g.configured.interfaces) (is_between 1 1000000 g.settings.limit) (is_querier_config (config_by g)) (list_all is_delay_config g.configured.interfaces) (are_routes g.configured g.routes) (are_rps g.ranges.static_ranges) (are_own_addresses g.configured) (are_routes g.configured rs) fine e
 
-with_ranges : (g : Ground) (rs : List RpRange) → IsFine g → are_rps rs ≡ true → IsFine (record g { ranges = rs })
+other_ranges : (g : Ground) (rs : List RpRange) → IsFine g → are_rps rs ≡ true
+    → IsFine (record g { ranges = with_ranges g.ranges rs })
 unfolding config_test is_querier_config
-with_ranges g rs fine e =
-    ninth (is_between 1 most_ifaces (length g.configured.interfaces)) (list_all (λ (x : InterfaceConfig). is_unicast x.address.bits) g.configured.interfaces) (list_all (λ (x : InterfaceConfig). is_between 1 31 x.length) g.configured.interfaces) (are_apart g.configured.interfaces) (is_between 1 1000000 g.settings.limit) (is_querier_config (config_by g)) (list_all is_delay_config g.configured.interfaces) (are_routes g.configured g.routes) (are_rps g.ranges) (are_own_addresses g.configured) (are_rps rs) fine e
+other_ranges g rs fine e =
+    ninth (is_between 1 most_ifaces (length g.configured.interfaces)) (list_all (λ (x : InterfaceConfig). is_unicast x.address.bits) g.configured.interfaces) (list_all (λ (x : InterfaceConfig). is_between 1 31 x.length) g.configured.interfaces) (are_apart g.configured.interfaces) (is_between 1 1000000 g.settings.limit) (is_querier_config (config_by g)) (list_all is_delay_config g.configured.interfaces) (are_routes g.configured g.routes) (are_rps g.ranges.static_ranges) (are_own_addresses g.configured) (are_rps rs) fine e
 
-module _ (s : State) (w : ℕ) (fine : IsFine (ground s)) where
+-- what each list that is accepted leaves true of a ground, each event does
+module _ (P : Ground → Type 0) (s : State) (w : ℕ) (fine : P (ground s))
+    (new_routes : (rs : List Route) → are_routes s.configured rs ≡ true → P (record (ground s) { routes = rs }))
+    (new_ranges : (rs : List RpRange) → are_rps rs ≡ true → P (record (ground s) { ranges = with_ranges s.ranges rs }))
+    (new_candidates : (cs : List RpCandidate) → are_candidates cs ≡ true
+    → P (record (ground s) { ranges = with_candidates s.ranges cs })) where
   abbrev Fine : Answered → Type 0
-  Fine a = IsFine (ground a.state)
+  Fine a = P (ground a.state)
 
-  done_fine : (a : Accepted) → IsFine (ground_after s a) → Fine (done s w (change s w a))
+  done_fine : (a : Accepted) → P (ground_after s a) → Fine (done s w (change s w a))
   unfolding done
   done_fine a f =
-      subst IsFine (sym (settled_ground s ((change s w a).state, (change s w a).messages) w ∙ change_ground s w a)) f
+      subst P (sym (settled_ground s ((change s w a).state, (change s w a).messages) w ∙ change_ground s w a)) f
 
-  taken_fine : (a : Accepted) → IsFine (ground_after s a) → Fine (taken s w a)
+  taken_fine : (a : Accepted) → P (ground_after s a) → Fine (taken s w a)
   unfolding taken
-  taken_fine (Accepted.Advance moment) f = subst IsFine (sym (advanced_stays s w moment)) fine
+  taken_fine (Accepted.Advance moment) f = subst P (sym (advanced_stays s w moment)) fine
   taken_fine a f = done_fine a f
 
-  full_fine : (a : Accepted) (b : Bool) → IsFine (ground_after s a) → Fine (full_or_taken s w a b)
+  full_fine : (a : Accepted) (b : Bool) → P (ground_after s a) → Fine (full_or_taken s w a b)
   full_fine a true f = fine
   full_fine a false f = taken_fine a f
 
-  other_after : (a : Accepted) → IsOther a → IsFine (ground_after s a)
+  other_after : (a : Accepted) → IsOther a → P (ground_after s a)
   other_after (Accepted.Routes routes) f = absurd f
   other_after (Accepted.Rps ranges) f = absurd f
   other_after a f = fine
@@ -139,24 +145,39 @@ module _ (s : State) (w : ℕ) (fine : IsFine (ground s)) where
   routes_fine : (routes : List Route) (b : Bool) → are_routes s.configured routes ≡ b
       → Fine (concluded s (taken_unless_full s w) (refuse_if (not b) Refusal.BadRoutes >>> Ok (Accepted.Routes routes)))
   unfolding taken_unless_full
-  routes_fine routes true e = full_fine (Accepted.Routes routes) (is_full s (Accepted.Routes routes)) (with_routes (ground s) routes fine e)
+  routes_fine routes true e = full_fine (Accepted.Routes routes) (is_full s (Accepted.Routes routes)) (new_routes routes e)
   routes_fine routes false e = fine
 
   ranges_fine : (ranges : List RpRange) (b : Bool) → are_rps ranges ≡ b
-      → Fine (concluded s (taken_unless_full s w) (refuse_if (not b) Refusal.BadRps >>> Ok (Accepted.Rps ranges)))
+      → Fine (concluded s (taken_unless_full s w)
+      (refuse_if (not b) Refusal.BadRps >>> Ok (Accepted.Rps (with_ranges s.ranges ranges))))
   unfolding taken_unless_full
-  ranges_fine ranges true e = full_fine (Accepted.Rps ranges) (is_full s (Accepted.Rps ranges)) (with_ranges (ground s) ranges fine e)
+  ranges_fine ranges true e =
+      full_fine (Accepted.Rps (with_ranges s.ranges ranges)) (is_full s (Accepted.Rps (with_ranges s.ranges ranges)))
+      (new_ranges ranges e)
   ranges_fine ranges false e = fine
 
+  candidates_fine : (cs : List RpCandidate) (b : Bool) → are_candidates cs ≡ b
+      → Fine (concluded s (taken_unless_full s w)
+      (refuse_if (not b) Refusal.BadCandidates >>> Ok (Accepted.Rps (with_candidates s.ranges cs))))
+  unfolding taken_unless_full
+  candidates_fine cs true e =
+      full_fine (Accepted.Rps (with_candidates s.ranges cs)) (is_full s (Accepted.Rps (with_candidates s.ranges cs)))
+      (new_candidates cs e)
+  candidates_fine cs false e = fine
+
   kind_fine : (kind : EventKind) → Fine (concluded s (taken_unless_full s w) (judged s kind))
-  unfolding judged routes_judged rps_judged
+  unfolding judged routes_judged rps_judged candidates_judged
   kind_fine (EventKind.Routes routes) = routes_fine routes (are_routes s.configured routes) refl
   kind_fine (EventKind.Rps ranges) = ranges_fine ranges (are_rps ranges) refl
+  kind_fine (EventKind.RpCandidates cs) = candidates_fine cs (are_candidates cs) refl
   kind_fine kind = others_fine (judged s kind) (other_judged s kind tt)
 
 step_is_fine : (s : State) (e : Event) → IsFine (ground s) → IsFine (ground (step s e).state)
 unfolding step
-step_is_fine s e fine = kind_fine s e.draw fine e.kind
+step_is_fine s e fine =
+    kind_fine IsFine s e.draw fine (λ rs ok. other_routes (ground s) rs fine ok) (λ rs ok. other_ranges (ground s) rs fine ok)
+    (λ cs ok. fine) e.kind
 
 pub saved_is_accepted : SavedIsAccepted
 unfolding config_of opening settings_of
@@ -165,3 +186,22 @@ saved_is_accepted c events e = kept_by_run (λ s. IsFine (ground s)) step_is_fin
 pub accepted_stays : AcceptedStays
 unfolding config_of
 accepted_stays s e accepted = step_is_fine s e accepted
+
+-- ---- the candidates
+
+abbrev HasAccepted : Ground → Type 0
+HasAccepted g = are_candidates g.ranges.candidates ≡ true
+
+pub candidates_stay_accepted : CandidatesStayAccepted
+unfolding step
+candidates_stay_accepted s e has =
+    kind_fine HasAccepted s e.draw has (λ rs ok. has) (λ rs ok. has) (λ cs ok. ok) e.kind
+
+none_accepted : are_candidates [] ≡ true
+unfolding are_candidates are_distinct_candidates
+none_accepted = refl
+
+pub saved_candidates_are_accepted : SavedCandidatesAreAccepted
+unfolding opening
+saved_candidates_are_accepted c events =
+    kept_by_run (λ s. HasAccepted (ground s)) candidates_stay_accepted (opening c) events none_accepted

@@ -4,7 +4,7 @@ use Rattle.pim_ip.{specs.{Addr.addr, Ipv4.{Packet, frame_limit, ipv4_reading, is
 use Rattle.pim_types.{specs.declared.{config.IfaceId.IfaceId, event.EventKind.EventKind, outcome.Ignored.Ignored}}
 use Rattle.pim_wire.{specs.{RegisterParts.registered_group, declared.view.PimView.PimView}}
 use Rattle.igmp_wire.{specs.declared.view.IgmpView.IgmpView}
-use Rattle.pim_model.{specs.{declared.accepted.Accepted.Accepted, Judging.{Judged, advance_judged, assert_judged, data_judged, down_judged, frame_judged, hello_judged, igmp_accepted, igmp_judged, igmp_message_judged, ignore_if, join_prune_judged, judged, of_read, packet_judged, pim_judged, pim_message_judged, pim_to_me_judged, refuse_if, register_judged, register_stop_judged, routes_judged, rps_judged, unicast_judged, unicast_packet_judged, up_judged, ◌>>◌}, State.{State, iface_count, is_up}, Unicast.is_rp}}
+use Rattle.pim_model.{specs.{declared.accepted.Accepted.Accepted, Judging.{Judged, advance_judged, assert_judged, candidates_judged, data_judged, down_judged, frame_judged, hello_judged, igmp_accepted, igmp_judged, igmp_message_judged, ignore_if, join_prune_judged, judged, of_read, packet_judged, pim_judged, pim_message_judged, pim_to_me_judged, refuse_if, register_judged, register_stop_judged, routes_judged, rps_judged, unicast_judged, unicast_packet_judged, up_judged, ◌>>◌}, State.{State, iface_count, is_up}, Unicast.is_rp}}
 use Rattle.law_plane.{specs.OffloadLaws.IsData}
 
 abbrev Says : (Accepted → Type 0) → Judged → Type 0
@@ -87,7 +87,7 @@ module _ (s : State) where
     unicast = grind (arith, reading, choosing, ignoring, to_me)
 
   any : (kind : EventKind) → FitsTo (Came kind) (judged s kind)
-  unfolding judged up_judged down_judged advance_judged routes_judged rps_judged
+  unfolding judged up_judged down_judged advance_judged routes_judged rps_judged candidates_judged
   any kind = grind (arith, refusing, frame, unicast, ignoring)
 
   pub by_frame : (kind : EventKind) (i : IfaceId) (p : Packet) → judged s kind ≡ Ok (Accepted.Data i p) → ByFrame s kind i p

@@ -1,5 +1,5 @@
 -- Goodbyes: where no interface has another address none leaves.
-use Rattle.std.{proofs.Common.{◌≡◌, ℕ, ◌==◌, ◌&&◌, not, Bool, true, false, List, [], length, map, refl, ap, eq-eqb}}
+use Rattle.std.{proofs.Common.{◌≡◌, ℕ, ◌==◌, ◌&&◌, not, Bool, true, false, [], length, map, refl, ap, eq-eqb}}
 use Rattle.pim_ip.{specs.Checksum.{ones, sum16, sum_of_words, with_checksum}}
 use Rattle.pim_wire.{specs.{Encoded.pim_text, Hellos.{hello_of, hello_test, is_option_length, option_test, options_test, with_option, with_options}, Messages.{body_reading, is_checksum_right, pim_reading}}}
 use Rattle.pim_model.{specs.{State.{Addressing, State, address_among, is_up}, Tables.below}}

@@ -1,10 +1,10 @@
--- What is accepted of any event but one that brings routes or RP ranges is neither.
+-- What is accepted of any event but one that brings routes, RP ranges or candidates is none of them.
 use Rattle.std.{proofs.Common.subst}
 use Rattle.pim_types.{specs.declared.event.EventKind.EventKind}
 use Rattle.pim_model.{specs.{declared.accepted.Accepted.Accepted, Judging.judged, State.State}}
 use Rattle.law_settled.{proofs.Judgements.{IsJudged, kind_by}}
 
--- neither routes nor RP ranges
+-- neither routes nor RP ranges and candidates
 abbrev pub IsOther : Accepted → Type 0
 IsOther (Accepted.Routes routes) = ⊥
 IsOther (Accepted.Rps ranges) = ⊥
@@ -13,6 +13,7 @@ IsOther _ = Unit {0}
 abbrev pub IsOtherKind : EventKind → Type 0
 IsOtherKind (EventKind.Routes routes) = ⊥
 IsOtherKind (EventKind.Rps ranges) = ⊥
+IsOtherKind (EventKind.RpCandidates candidates) = ⊥
 IsOtherKind _ = Unit {0}
 
 pub other_judged : (s : State) (kind : EventKind) → IsOtherKind kind → IsJudged IsOther (judged s kind)
@@ -34,4 +35,5 @@ other_judged s kind other =
       moments = λ m e. tt;
       routes = λ routes e. subst IsOtherKind e other;
       ranges = λ ranges e. subst IsOtherKind e other;
+      candidates = λ candidates e. subst IsOtherKind e other;
     })

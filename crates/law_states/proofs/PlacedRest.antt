@@ -1,7 +1,7 @@
 -- What a reload by places leaves is at rest.
 use Rattle.std.{proofs.Common.{◌≡◌, ◌&&◌, ℕ, ◌-◌, Bool, true, false, List, [], length, map, nat_lt, Ok, refl, ap, subst, ◌∙◌}, specs.List.range_with_len}
-use Rattle.pim_types.{specs.{declared.{config.Config.Config, event.Event.Event, fact.{Key.Key, QuerierRow.QuerierRow}}, Keys.{group_in, iface_in, iface_key, same_key, source_in, source_key, star_key}}, proofs.Keys.{equal_keys, same_key_same}}
-use Rattle.pim_model.{specs.{declared.accepted.Accepted.Accepted, Limits.config_test, State.{addressing_of, State, is_up, settings_of}, Step.{change, ran, rps_replaced, state_after}, Tables.{is_among}}}
+use Rattle.pim_types.{specs.{declared.{config.{Config.Config, RpTable.RpTable}, event.Event.Event, fact.{Key.Key, QuerierRow.QuerierRow}}, Keys.{group_in, iface_in, iface_key, same_key, source_in, source_key, star_key}}, proofs.Keys.{equal_keys, same_key_same}}
+use Rattle.pim_model.{specs.{declared.accepted.Accepted.Accepted, Limits.config_test, State.{addressing_of, State, is_up, settings_of}, Step.{change, ran, rps_replaced, state_after}, Tables.is_among, Unicast.with_ranges}}
 use Rattle.law_settled.{specs.{Laws.{is_querier_entry}, Ready.IsSettled}, proofs.{Changes.change_fine, Parts.{Part, Interfaces, Neighbours, Queriers, GroupRecords, SourceRecords, GroupRepeats, SourceRepeats, Sendings, Downstreams, Asserts, JoinTimers, OverrideTimers, Sources, Registers}, FineStates.{Anyhow, FineAt, Good, IsFine, without_rows}, SettledStates.{fine_is_settled, settled_is_fine}, Steps.later_is_late}}
 use Rattle.law_events.{specs.Rest.IsAtRest, proofs.Rest.run_is_at_rest}
 use Rattle.law_states.{specs.{Reload.{IsSetting, config_of}, Reloading.{asserts_under, down_event, hellos_anew, is_won_before, queriers_under, replaced, under}, PlacedLaws.PlacedReloadLeavesRest, Placing.{gone_on, in_order, placed_key, kept_places, moved, new_order, old_order, placed_under, reload_by, resubnetted, to_order, without_neighbours}}, proofs.{Settings.settled_under, Reloads.{accepted_setting, follows_at_rest}, Queriers.queriers_settled, WonAsserts.asserts_settled, Rows.{fine_placed, has_placed}}}
@@ -98,20 +98,21 @@ ordered_setting order c e =
     record { robustness = f.robustness; query_interval = f.query_interval; last_member_query_interval = f.last_member_query_interval }
 
 -- other RP ranges leave a settled state settled
-ranges_settled : (s : State) (c : Config) → IsSettled s → IsSettled (rps_replaced s c.rps)
+ranges_settled : (s : State) (ranges : RpTable) → IsSettled s → IsSettled (rps_replaced s ranges)
 unfolding change rps_replaced
-ranges_settled s c f =
-    let after : Anyhow s.present (nat_lt s.present) (rps_replaced s c.rps) =
+ranges_settled s ranges f =
+    let after : Anyhow s.present (nat_lt s.present) (rps_replaced s ranges) =
     change_fine s.present (nat_lt s.present) (is_up s) (later_is_late s.present) s (settled_is_fine s f) 0
-    (Accepted.Rps c.rps) tt in
-    fine_is_settled s.present after.ups (rps_replaced s c.rps) after.fine
+    (Accepted.Rps ranges) tt in
+    fine_is_settled s.present after.ups (rps_replaced s ranges) after.fine
 
 under_settled_by : (s : State) (c : Config) → IsSetting (settings_of c) → IsSettled s → IsSettled (under s c)
 unfolding under asserts_under is_won_before
 under_settled_by s c setting f =
     let asking : State = record s { queriers = queriers_under s (settings_of c) } in
     let anew : State = record asking { asserts = asserts_under s (addressing_of c) } in
-    ranges_settled (record anew { settings = settings_of c; configured = addressing_of c; routes = c.routes }) c
+    ranges_settled (record anew { settings = settings_of c; configured = addressing_of c; routes = c.routes })
+    (with_ranges s.ranges c.rps)
     (settled_under anew (settings_of c) (addressing_of c) c.routes s.ranges setting
     (asserts_settled asking (addressing_of c) (queriers_settled s (settings_of c) setting f)))
 

@@ -1,7 +1,7 @@
 -- What another configuration leaves is at rest.
 use Rattle.std.{proofs.Common.{◌≡◌, ℕ, nat_lt, List, [], Ok, refl}}
 use Rattle.pim_types.{specs.declared.config.Config.Config}
-use Rattle.pim_model.{specs.{Firing.settled, Limits.config_test, Messages.Message, Querier.each_in_turn, Writing.{all_written, write_all}, State.{addressing_of, State, is_up, opening, settings_of}}}
+use Rattle.pim_model.{specs.{Firing.settled, Limits.config_test, Messages.Message, Querier.each_in_turn, Writing.{all_written, write_all}, State.{addressing_of, State, is_up, opening, settings_of}, Unicast.with_ranges}}
 use Rattle.law_settled.{specs.{Laws.IsAhead, Ready.IsSettled}, proofs.{FiringLaws.opening_is_ahead, SettledStates.{fine_is_settled, settled_is_fine}, Upstream.settled_fine, Steps.later_is_late}}
 use Rattle.law_events.{specs.Rest.IsAtRest, proofs.{SettledRegisters.settling_quiets, Differing.nothing_follows, OwnKeys.sources_once}}
 use Rattle.law_states.{specs.Reload.{IsSetting, ReloadIsAtRest, SameConfigurationChangesNothing, config_of, reconfigured, reloaded}, proofs.Settings.settled_under}
@@ -30,7 +30,8 @@ pub reload_is_at_rest : ReloadIsAtRest
 unfolding reloaded reconfigured
 reload_is_at_rest s c w e h =
     follows_at_rest s (reconfigured s c) [] w
-    (settled_under s (settings_of c) (addressing_of c) c.routes c.rps (accepted_setting c e) h.settled)
+    (settled_under s (settings_of c) (addressing_of c) c.routes (with_ranges s.ranges c.rps)
+    (accepted_setting c e) h.settled)
 
 pub same_configuration_changes_nothing : SameConfigurationChangesNothing
 unfolding reloaded reconfigured config_of settings_of write_all all_written each_in_turn

@@ -1,6 +1,6 @@
 -- No macro of what must go reads the settings.
-use Rattle.std.{proofs.Common.{◌≡◌, ℕ, List, refl}}
-use Rattle.pim_types.{specs.declared.config.{Route.Route, RpRange.RpRange, Settings.Settings}}
+use Rattle.std.{proofs.Common.{List, refl}}
+use Rattle.pim_types.{specs.declared.config.{Route.Route, RpTable.RpTable, Settings.Settings}}
 use Rattle.pim_model.{specs.{State.{Addressing, State}, AssertMacros.{could_assert, could_assert_star, forwarding_set, is_tracking_desired, is_tracking_desired_star, my_metric, my_metric_star}, Clearing.assert_must_go, Desires.{is_immediate_empty, is_inherited_empty, join_desired, join_desired_star, rpf_star, rpf_source, rpf_rpt}, Neighbours.{is_dr, nbr}, Receivers.{is_exclude, local_receiver_exclude, local_receiver_include}, Registers.{could_register, has_other_rp}, Sets.{immediate_olist, immediate_olist_star, inherited_olist, inherited_olist_rpt, is_beaten, is_empty, is_kept_alive, joins, joins_star, lost_assert, lost_assert_rpt, lost_assert_star, pim_exclude, pim_include, pim_include_star, prunes, rpt_metric, serves, serves_star, spt_bit, spt_metric, tunnel}, Timers.timers, Unicast.{is_connected, route, rp_of, rp_route, rpf_interface, rpf_interface_rp}}}
 use Rattle.law_events.{specs.Locality.IsQuiet}
 use Rattle.law_settled.{specs.Ready.IsSettled}
@@ -18,7 +18,7 @@ module _ (s : State) (t : Settings) where
     registers_settled = q.registers_settled;
   }
 
-module _ (s : State) (t : Settings) (cs : Addressing) (rs : List Route) (gs : List RpRange) where
+module _ (s : State) (t : Settings) (cs : Addressing) (rs : List Route) (gs : RpTable) where
   abbrev under : State
   under = record s { settings = t; configured = cs; routes = rs; ranges = gs }
 

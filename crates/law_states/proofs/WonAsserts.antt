@@ -1,5 +1,5 @@
 -- Asserts under other interfaces: the table stays settled, and where no address changes it is the same.
-use Rattle.std.{proofs.Common.{◌≡◌, ◌==◌, ◌&&◌, not, nat_lt, Bool, true, false, List, [], ◌∷◌, Some, filter, refl, ap, eq-eqb}, specs.List.{AllByRecursion}}
+use Rattle.std.{proofs.Common.{◌≡◌, ◌==◌, ◌&&◌, not, nat_lt, Bool, true, false, [], ◌∷◌, Some, filter, refl, ap, eq-eqb}, specs.List.{AllByRecursion}}
 use Rattle.pim_types.{specs.{declared.{fact.{AssertRow.AssertRow, Key.Key}}, Keys.iface_in}}
 use Rattle.pim_model.{specs.{Sets.is_winner, State.{Addressing, State, address_among, is_up}, Tables.Table}}
 use Rattle.law_settled.{specs.Ready.IsSettled, proofs.{FineStates.{Good, rows_fine}, FineTables.{fine_filter}, Parts.Asserts, SettledStates.{fine_is_settled, settled_is_fine}}}

@@ -2,7 +2,7 @@
 -- has, and the old interfaces that the map leaves out go down. Sections are those of RFC 7761.
 use Rattle.std.{specs.{List.{cons_option, list_all, range_with_len}, Option.{option_map_or}, Prelude.{Bool, List, None, Option, Some, [], false, filter, if◌then◌else◌, is_some, length, map, nat_lt, not, slice_get, true, ℕ, ◌&&◌, ◌++◌, ◌+◌, ◌-◌, ◌==◌, ◌∷◌}}}
 use Rattle.pim_types.{specs.{Keys.iface_in, declared.{config.{Config.Config, InterfaceConfig.InterfaceConfig, Route.Route}, fact.Key.Key, outcome.{Emission.Emission, Outcome.Outcome}}}}
-use Rattle.pim_model.{specs.{Firing.settled, State.{addressing_of, State, settings_of}, Step.ran, Tables.{Table, below, drop_where, is_among, put}}}
+use Rattle.pim_model.{specs.{Firing.settled, State.{addressing_of, State, settings_of}, Step.ran, Tables.{Table, below, drop_where, is_among, put}, Unicast.with_ranges}}
 use Rattle.law_states.{specs.{Reload.config_of, Reloading.{down_event, goodbyes, replaced, sent_by}}}
 
 -- ---- numbers in lists
@@ -116,7 +116,7 @@ placed_under s places c = record s {
   settings = settings_of c;
   configured = addressing_of c;
   routes = c.routes;
-  ranges = c.rps;
+  ranges = with_ranges s.ranges c.rps;
   interfaces = placed places s.interfaces;
   neighbours = placed places s.neighbours;
   queriers = placed places s.queriers;

@@ -1,7 +1,7 @@
 -- A state under another configuration.
 use Rattle.std.{specs.Prelude.{List, Ok, [], nat_lt, true, ℕ, ◌≡◌}}
 use Rattle.pim_types.{specs.declared.{config.{Config.Config, Settings.Settings}, outcome.Emission.Emission}}
-use Rattle.pim_model.{specs.{Firing.settled, Limits.config_test, State.{State, addressing_of, settings_of}}}
+use Rattle.pim_model.{specs.{Firing.settled, Limits.config_test, State.{State, addressing_of, settings_of}, Unicast.with_ranges}}
 use Rattle.law_events.{specs.Rest.IsAtRest}
 
 -- The settings have no robustness and no interval that is 0.
@@ -15,9 +15,14 @@ pub record IsSetting (t : Settings) : Type 0 where
 abbrev pub FreshSettingsKeepRest : Type 0
 FreshSettingsKeepRest = (s : State) (t : Settings) → IsSetting t → IsAtRest s → IsAtRest (record s { settings = t })
 
--- a state with all its facts, under another configuration
+-- a state with all its facts, under another configuration; the candidates, of which no configuration says anything, stay
 unfoldable pub reconfigured : State → Config → State
-reconfigured s c = record s { settings = settings_of c; configured = addressing_of c; routes = c.routes; ranges = c.rps }
+reconfigured s c = record s {
+  settings = settings_of c;
+  configured = addressing_of c;
+  routes = c.routes;
+  ranges = with_ranges s.ranges c.rps;
+}
 
 -- The state after a new configuration, with what follows of the change, as of any event, and what that sends.
 unfoldable pub reloaded : State → Config → ℕ → State × List Emission
@@ -27,7 +32,7 @@ reloaded s c w = settled s (reconfigured s c, []) w
 abbrev pub ReloadIsAtRest : Type 0
 ReloadIsAtRest = (s : State) (c : Config) (w : ℕ) → config_test c ≡ Ok tt → IsAtRest s → IsAtRest (reloaded s c w).0
 
--- the configuration that a state is under
+-- the configuration that a state is under, beside its candidates
 unfoldable pub config_of : State → Config
 config_of s = record {
   interfaces = s.configured.interfaces;
@@ -38,7 +43,7 @@ config_of s = record {
   query_response_interval = s.settings.query_response_interval;
   last_member_query_interval = s.settings.last_member_query_interval;
   routes = s.routes;
-  rps = s.ranges;
+  rps = s.ranges.static_ranges;
   addresses = s.configured.addresses;
 }
 

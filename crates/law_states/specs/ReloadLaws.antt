@@ -44,7 +44,7 @@ with_settings s t = record {
   query_response_interval = t.query_response_interval;
   last_member_query_interval = t.last_member_query_interval;
   routes = s.routes;
-  rps = s.ranges;
+  rps = s.ranges.static_ranges;
   addresses = s.configured.addresses;
 }
 

@@ -3,7 +3,7 @@
 use Rattle.std.{specs.{List.{flat_map, range_with_len}, Prelude.{Bool, List, Option, Some, [], false, filter, length, map, min, not, slice_get, ℕ, ◌&&◌, ◌*◌, ◌++◌, ◌+◌, ◌-◌, ◌==◌, ◌∷◌}}}
 use Rattle.pim_types.{specs.{Keys.iface_in, declared.{config.{Config.Config, InterfaceConfig.InterfaceConfig, Settings.Settings}, fact.{AssertRow.AssertRow, Key.Key, QuerierRole.QuerierRole, QuerierRow.QuerierRow}, event.{Event.Event, EventKind.EventKind}, outcome.{Emission.Emission, Outcome.Outcome}}}}
 use Rattle.pim_wire.{specs.{Encoded.pim_text, Hellos.{holdtime_option, option_text}}}
-use Rattle.pim_model.{specs.{Firing.settled, Messages.Message, Sets.is_winner, State.{Addressing, State, address_among, addressing_of, iface_config, iface_count, interfaces_of, is_up, settings_of}, Step.{ran, rps_replaced}, Tables.{Table, below}, Writing.pim_on_link}}
+use Rattle.pim_model.{specs.{Firing.settled, Messages.Message, Sets.is_winner, State.{Addressing, State, address_among, addressing_of, iface_config, iface_count, interfaces_of, is_up, settings_of}, Step.{ran, rps_replaced}, Tables.{Table, below}, Unicast.with_ranges, Writing.pim_on_link}}
 
 -- ---- what is removed
 
@@ -49,7 +49,8 @@ asserts_under s configured = filter (λ e. not (is_won_before s configured e)) s
 
 -- ---- what is replaced
 
--- All facts under another configuration. Where RP(G) is another one, the registers of G change as RP changed (4.4.1).
+-- All facts under another configuration; the candidates stay. Where RP(G) is another one, the registers of G change as RP
+-- changed (4.4.1).
 -- here: facts stay, whatever the new limit; where they are more, an event that needs new ones is refused
 unfoldable pub under : State → Config → State
 under s c =
@@ -61,7 +62,7 @@ under s c =
       queriers = queriers_under s (settings_of c);
       asserts = asserts_under s (addressing_of c);
     })
-    c.rps
+    (with_ranges s.ranges c.rps)
 
 -- ---- goodbyes
 

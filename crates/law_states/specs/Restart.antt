@@ -1,7 +1,7 @@
 -- A state that was saved between two events, and goes on where it is read again.
 use Rattle.std.{specs.Prelude.{List, Ok, [], true, ◌++◌, ◌≡◌}}
 use Rattle.pim_types.{specs.declared.{config.Config.Config, event.Event.Event}}
-use Rattle.pim_model.{specs.{Cause.{OutcomesAreAsked, past_after}, Limits.config_test, State.{State, opening}, Step.{run, state_after, step}}}
+use Rattle.pim_model.{specs.{Cause.{OutcomesAreAsked, past_after}, Limits.{config_test, are_candidates}, State.{State, opening}, Step.{run, state_after, step}}}
 use Rattle.pim_saved.{specs.{Fits.FitsState, Reading.reading, Text.text}}
 use Rattle.law_states.{specs.{Reload.config_of, Resting.is_at_rest}}
 
@@ -44,3 +44,13 @@ SavedIsAccepted = (c : Config) (events : List Event) → config_test c ≡ Ok tt
 abbrev pub AcceptedStays : Type 0
 AcceptedStays = (s : State) (e : Event) → config_test (config_of s) ≡ Ok tt
     → config_test (config_of (step s e).state) ≡ Ok tt
+
+-- the candidates of a state of a run are accepted, whatever events came
+abbrev pub SavedCandidatesAreAccepted : Type 0
+SavedCandidatesAreAccepted = (c : Config) (events : List Event)
+    → are_candidates (state_after (opening c) events).ranges.candidates ≡ true
+
+-- each event leaves candidates that are accepted, where they were before
+abbrev pub CandidatesStayAccepted : Type 0
+CandidatesStayAccepted = (s : State) (e : Event) → are_candidates s.ranges.candidates ≡ true
+    → are_candidates (step s e).state.ranges.candidates ≡ true

@@ -26,7 +26,8 @@ pub use reloaded::{
     settings_move_nothing, untold_says_same,
 };
 pub use restored::{
-    accepted_stays, fresh_settings_keep_rest, later_run_is_asked, later_state_is_reached,
-    next_tells_ahead, reload_is_at_rest, rest_is_decided, restart_changes_nothing,
-    restart_is_asked, same_configuration_changes_nothing, saved_is_accepted, saved_is_at_rest,
+    accepted_stays, candidates_stay_accepted, fresh_settings_keep_rest, later_run_is_asked,
+    later_state_is_reached, next_tells_ahead, reload_is_at_rest, rest_is_decided,
+    restart_changes_nothing, restart_is_asked, same_configuration_changes_nothing,
+    saved_candidates_are_accepted, saved_is_accepted, saved_is_at_rest,
 };

@@ -1,6 +1,6 @@
 //! What holds of a state that was saved and is read again. Each law is the contract of a function with nothing to do.
 ghost use Rattle.law_states.specs.Reload.{FreshSettingsKeepRest, ReloadIsAtRest, SameConfigurationChangesNothing};
-ghost use Rattle.law_states.specs.Restart.{AcceptedStays, LaterRunIsAsked, LaterStateIsReached, RestartChangesNothing, RestartIsAsked, SavedIsAccepted, SavedIsAtRest};
+ghost use Rattle.law_states.specs.Restart.{AcceptedStays, CandidatesStayAccepted, LaterRunIsAsked, LaterStateIsReached, RestartChangesNothing, RestartIsAsked, SavedCandidatesAreAccepted, SavedIsAccepted, SavedIsAtRest};
 ghost use Rattle.law_states.specs.Resting.{NextTellsAhead, RestIsDecided};
 
 /// The test of rest passes exactly where a state is at rest.
@@ -61,4 +61,14 @@ pub fn saved_is_accepted()
 /// The configuration of a router is accepted after each event.
 pub fn accepted_stays()
     ensures { AcceptedStays }
+{}
+
+/// The candidates of a state of a run are accepted.
+pub fn saved_candidates_are_accepted()
+    ensures { SavedCandidatesAreAccepted }
+{}
+
+/// The candidates of a router are accepted after each event.
+pub fn candidates_stay_accepted()
+    ensures { CandidatesStayAccepted }
 {}

@@ -1,8 +1,8 @@
 -- Own addresses of no interface lie on no link.
-use Rattle.std.{proofs.{Common.{◌≡◌, ◌∙◌, ◌==◌, ◌&&◌, ◌||◌, ◌+◌, ℕ, zero, suc, Bool, true, false, not, List, [], ◌∷◌, None, Option, Ok, refl, sym, ap, subst, arith, eqb-true}, lemmas.Bool.or_right}, specs.{List.{AllByRecursion, find, list_all, list_any, range_with_len}, Option.option_map_or, Prelude.slice_get}}
+use Rattle.std.{proofs.{Common.{◌≡◌, ◌∙◌, ◌==◌, ◌&&◌, ◌||◌, ◌+◌, ℕ, zero, suc, Bool, true, false, not, List, [], ◌∷◌, None, Ok, refl, sym, ap, subst, arith, eqb-true}, lemmas.Bool.or_right}, specs.{List.{find, list_all, list_any, range_with_len}, Option.option_map_or, Prelude.slice_get}}
 use Rattle.pim_ip.{specs.{Ipv4.is_unicast, Prefixes.contains, Tests.{expect, ◌>>◌}, declared.{addr.Addr.Addr, refusal.Refusal.Refusal}}}
 use Rattle.pim_types.{specs.{Keys.iface_key, declared.{config.{Config.Config, InterfaceConfig.InterfaceConfig}, event.Event.Event, fact.InterfaceRow.InterfaceRow}}}
-use Rattle.pim_model.{specs.{Limits.{are_once, are_own_addresses, config_test, is_apart, is_in_subnet}, State.{Addressing, State, addressing_of, is_own, is_own_among, opening}, Step.state_after, Tables.{Table, has_row}, Unicast.{is_on_link_among, link_among, route, route_among, subnet}}}
+use Rattle.pim_model.{specs.{Limits.{are_once, are_own_addresses, config_test, is_apart, is_in_subnet}, State.{Addressing, State, addressing_of, is_own_among, opening}, Step.state_after, Tables.{Table, has_row}, Unicast.{is_on_link_among, link_among, route, route_among, subnet}}}
 use Rattle.law_settled.{proofs.{ListLaws.{any_among_all, each_of_list}, StepLaws.kept_by_run}}
 use Rattle.law_streams.{specs.Addresses.{IsLinkless, NoneIsAccepted, OthersAreOfInterfaces, OwnIsOffLink}, proofs.Settings.step_configured}
 

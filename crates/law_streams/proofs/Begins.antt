@@ -1,5 +1,5 @@
 -- A Join(*,G) begins a stream.
-use Rattle.std.{proofs.Common.{◌≡◌, ◌∙◌, ℕ, ◌<◌, ◌&&◌, false, not, List, [], length, Option, Some, None, refl, sym, ap, subst, arith}}
+use Rattle.std.{proofs.Common.{◌≡◌, ◌∙◌, ℕ, ◌<◌, ◌&&◌, false, not, [], length, Option, Some, None, refl, sym, ap, subst, arith}}
 use Rattle.pim_types.{specs.{Keys.{rpt_key, source_key}, declared.{config.IfaceId.IfaceId, event.Event.Event}}}
 use Rattle.pim_wire.{specs.{Values.JoinPrune, declared.join_prune.EntryKind.EntryKind}}
 use Rattle.pim_model.{specs.{declared.accepted.Accepted.Accepted, Downstream.{accepted_prunes, is_named, pruned_keys}, Messages.entry, Network.Station, Sets.{assert_source, is_loser, prunes, spt_bit}, State.{Addressing, State, is_own_among, my_address}, Step.{change, done, step}, Unicast.is_rpf_interface}}

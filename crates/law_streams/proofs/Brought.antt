@@ -4,7 +4,7 @@ use Rattle.pim_ip.{specs.{Ipv4.{Packet, all_pim_routers, ipv4_reading, protocol_
 use Rattle.pim_types.{specs.declared.{config.IfaceId.IfaceId, event.{Event.Event, EventKind.EventKind}, outcome.{Ignored.Ignored, Verdict.Verdict}}}
 use Rattle.pim_wire.{specs.{Messages.pim_reading, Values.Encapsulated, declared.view.PimView.PimView}}
 use Rattle.igmp_wire.{specs.declared.view.IgmpView.IgmpView}
-use Rattle.pim_model.{specs.{declared.accepted.Accepted.Accepted, Cause.{done_as, if_done, packet_in}, Judging.{Judged, advance_judged, assert_judged, data_judged, down_judged, frame_judged, hello_judged, igmp_accepted, igmp_judged, igmp_message_judged, ignore_if, join_prune_judged, judged, last_moment, of_read, packet_judged, pim_judged, pim_message_judged, pim_to_me_judged, refuse_if, register_judged, register_stop_judged, routes_judged, rps_judged, unicast_judged, unicast_packet_judged, up_judged, ◌>>◌}, Limits.{are_routes, are_rps}, State.{State, iface_count, is_up}, Step.step}}
+use Rattle.pim_model.{specs.{declared.accepted.Accepted.Accepted, Cause.{done_as, if_done, packet_in}, Judging.{Judged, advance_judged, assert_judged, candidates_judged, data_judged, down_judged, frame_judged, hello_judged, igmp_accepted, igmp_judged, igmp_message_judged, ignore_if, join_prune_judged, judged, last_moment, of_read, packet_judged, pim_judged, pim_message_judged, pim_to_me_judged, refuse_if, register_judged, register_stop_judged, routes_judged, rps_judged, unicast_judged, unicast_packet_judged, up_judged, ◌>>◌}, Limits.{are_candidates, are_routes, are_rps}, State.{State, iface_count, is_up}, Step.step, Unicast.{with_candidates, with_ranges}}}
 use Rattle.law_streams.{specs.Brought.{BringsPacket, InRegister, OnLink, PacketComesFromEvent}}
 
 -- the packet of what was judged
@@ -105,7 +105,7 @@ module _ (s : State) (p : Packet) where
   of_unicast bytes e = grind (arith, was_read, of_pim)
 
   kind_brings : (kind : EventKind) (e : Event) → e.kind ≡ kind → packet_of (judged s kind) ≡ Some p → BringsPacket e p
-  unfolding judged advance_judged up_judged down_judged routes_judged rps_judged
+  unfolding judged advance_judged up_judged down_judged routes_judged rps_judged candidates_judged
   kind_brings (EventKind.Frame i bytes) e is was = OnLink i bytes is (of_frame i bytes was)
   kind_brings (EventKind.Unicast bytes) e is was =
       let inside : IsInside bytes = of_unicast bytes was in
@@ -123,7 +123,11 @@ module _ (s : State) (p : Packet) where
       (ignore_if (not (is_up s i.number)) Ignored.Already >> Ok (Accepted.Down i)) p was))
   kind_brings (EventKind.Routes routes) e is was =
       cc (after_refusing (not (are_routes s.configured routes)) Refusal.BadRoutes (Ok (Accepted.Routes routes)) p was)
-  kind_brings (EventKind.Rps rps) e is was = cc (after_refusing (not (are_rps rps)) Refusal.BadRps (Ok (Accepted.Rps rps)) p was)
+  kind_brings (EventKind.Rps rps) e is was =
+      cc (after_refusing (not (are_rps rps)) Refusal.BadRps (Ok (Accepted.Rps (with_ranges s.ranges rps))) p was)
+  kind_brings (EventKind.RpCandidates candidates) e is was =
+      cc (after_refusing (not (are_candidates candidates)) Refusal.BadCandidates
+      (Ok (Accepted.Rps (with_candidates s.ranges candidates))) p was)
 
 -- what was answered Done was judged so
 judged_so : (answer : Result Verdict Refusal) (j : Judged) (p : Packet) → packet_in (if_done answer j) ≡ Some p

@@ -1,5 +1,5 @@
 -- No change clears an SPTbit by itself.
-use Rattle.std.{proofs.Common.{◌≡◌, ◌∙◌, ℕ, Bool, true, [], refl, ap, arith}}
+use Rattle.std.{proofs.Common.{◌≡◌, ◌∙◌, ℕ, Bool, true, refl, ap, arith}}
 use Rattle.pim_ip.{specs.Ipv4.Packet}
 use Rattle.pim_types.{specs.{Keys.{same_key, source_key}, declared.fact.{AssertMetric.AssertMetric, Key.Key, SourceRow.SourceRow}}, proofs.Keys.equal_keys}
 use Rattle.pim_wire.{specs.declared.assert.Assert.Assert as AssertMessage}

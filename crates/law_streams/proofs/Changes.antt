@@ -1,5 +1,5 @@
 -- What an event's own change leaves of a stream.
-use Rattle.std.{proofs.Common.{◌≡◌, ◌∙◌, ℕ, ◌==◌, ◌&&◌, ◌||◌, Bool, true, false, not, List, [], filter, Some, refl, ap, subst, arith}}
+use Rattle.std.{proofs.Common.{◌≡◌, ◌∙◌, ℕ, ◌==◌, ◌&&◌, ◌||◌, Bool, true, false, not, List, filter, Some, refl, ap, subst, arith}}
 use Rattle.pim_ip.{specs.Ipv4.Packet}
 use Rattle.pim_types.{specs.{Keys.{iface_key, is_on, same_key, source_key}, declared.{config.IfaceId.IfaceId, fact.{AssertMetric.AssertMetric, AssertRow.AssertRow, DownstreamRow.DownstreamRow, InterfaceRow.InterfaceRow, Key.Key, SourceRow.SourceRow}}}, proofs.Keys.equal_keys}
 use Rattle.pim_wire.{specs.{declared.{assert.Assert.Assert as AssertMessage, hello.Hello.Hello as HelloValue}, Values.{Encapsulated, JoinPrune, Null}}}

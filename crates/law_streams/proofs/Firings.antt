@@ -71,7 +71,7 @@ by_kind : (P : TimerKind → Type 0) → P TimerKind.Join → P TimerKind.Neighb
     → ((kind : TimerKind) → is_join kind ≡ false → is_neighbours kind ≡ false → P kind) → (kind : TimerKind) → P kind
 by_kind P j n others kind = grind (arith, others, join_is, neighbour_is)
 
-fired_now : (s : State) (k : Key) (kind : TimerKind) → (fired s kind k).0.present ≡ s.present
+pub fired_now : (s : State) (k : Key) (kind : TimerKind) → (fired s kind k).0.present ≡ s.present
 fired_now s k = grind (arith, by_kind, join_now, neighbour_now, fired_parts)
 
 fired_fewer : (q : Key) (s : State) (k : Key) (kind : TimerKind) → has_row (fired s kind k).0.neighbours q ≡ true
@@ -84,7 +84,7 @@ joins_away : (join : Join) (g x : ℕ) (s : State) (k : Key) → same_key (join_
 unfolding fired join_timer_due
 joins_away join g x s k off f = grind (arith, is_after, row_change_away, apart_keys)
 
-fired_by : (join : Join) (g x : ℕ) (s : State) (k : Key) (kind : TimerKind)
+pub fired_by : (join : Join) (g x : ℕ) (s : State) (k : Key) (kind : TimerKind)
     → (is_join kind && same_key (join_key join 0 g) k) ≡ false → EndsBy join g x s → EndsBy join g x (fired s kind k).0
 fired_by join g x s k = grind (arith, by_kind, joins_away, is_after, neighbour_timers, fired_parts)
 

@@ -64,7 +64,7 @@ module _ (m : List ℕ) (q : Packet) where
   of_register e = let f = by_kind (is_null_register m) _ _ _ _ _ e in of_inner f.0 f.1
 
   -- what was read as a Register has it inside
-  of_reading : pim_reading m ≡ Ok (Register (Encapsulated q)) → ipv4_reading (drop 8 m) ≡ Ok q
+  pub of_reading : pim_reading m ≡ Ok (Register (Encapsulated q)) → ipv4_reading (drop 8 m) ≡ Ok q
   unfolding pim_reading body_reading
   of_reading e =
       by_type (pim_type_of m == 0) (pim_type_of m == 1) (pim_type_of m == 2) (pim_type_of m == 3) (pim_type_of m == 5)

@@ -1,5 +1,5 @@
 -- A router that takes a Join(S,G) and sends its own.
-use Rattle.std.{proofs.{Common.{◌≡◌, ◌∙◌, ℕ, ◌^◌, ◌<◌, ◌||◌, Bool, true, false, not, cond, List, [], ◌∷◌, Option, Some, None, Ok, refl, sym, ap, subst, arith}, lemmas.List.Elements.All-nil}, specs.List.Contains}
+use Rattle.std.{proofs.{Common.{◌≡◌, ◌∙◌, ℕ, ◌^◌, ◌<◌, ◌||◌, Bool, true, false, not, cond, [], ◌∷◌, Option, Some, None, Ok, refl, sym, ap, subst, arith}, lemmas.List.Elements.All-nil}, specs.List.Contains}
 use Rattle.pim_ip.{specs.Ipv4.is_source_specific}
 use Rattle.pim_types.{specs.{Keys.{neighbour_key, source_key}, declared.{config.IfaceId.IfaceId, event.{Event.Event, EventKind.EventKind}, fact.{AssertRow.AssertRow, NeighbourRow.NeighbourRow}, outcome.Emission.Emission, path.{Hop.Hop, Path.Path}}}, proofs.Keys.same_key_same}
 use Rattle.pim_wire.{specs.{Values.JoinPrune, declared.join_prune.EntryKind.EntryKind}}

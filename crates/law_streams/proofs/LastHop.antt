@@ -1,5 +1,5 @@
 -- The last hop sets SPTbit, and keeps it while its keepalive timer runs and it serves who is there.
-use Rattle.std.{proofs.{Common.{◌≡◌, ◌∙◌, ℕ, ◌<◌, ◌&&◌, ◌||◌, Bool, true, false, not, List, length, Option, Some, inl, inr, is_some, None, refl, sym, ap, subst, arith}, lemmas.Bool.{both_ways, or_left}}, specs.{Cmp.{first_so, second_so, Derive.both_true}, List.Contains, Option.option_map_or, Prelude.option_and_then}}
+use Rattle.std.{proofs.{Common.{◌≡◌, ◌∙◌, ℕ, ◌<◌, ◌&&◌, ◌||◌, Bool, true, false, not, length, Option, Some, inl, inr, is_some, None, refl, sym, ap, subst, arith}, lemmas.Bool.{both_ways, or_left}}, specs.{Cmp.{first_so, second_so, Derive.both_true}, List.Contains, Option.option_map_or, Prelude.option_and_then}}
 use Rattle.pim_ip.{specs.Ipv4.{Packet, copy_text}}
 use Rattle.pim_types.{specs.{Keys.{group_in, rpt_key, same_key, source_in, source_key, star_key}, declared.{event.Event.Event, fact.{AssertRow.AssertRow, DownstreamRow.DownstreamRow, Key.Key, NeighbourRow.NeighbourRow, RegisterRow.RegisterRow, SourceRow.SourceRow}}}, proofs.Keys.equal_keys}
 use Rattle.pim_model.{specs.{declared.accepted.Accepted.Accepted, Asserts.{assert_forgotten, with_spt_bit, without_spt, without_spt_bit}, Clearing.{ClearAssert, ClearSptBit, Cleared, clear, clear_all, clearable_count, cleared, to_clear}, Desires.{is_immediate_empty, is_inherited_empty, join_desired}, Forwarding.{forwarded, list_chosen, source_here, source_joined, when}, Neighbours.is_dr, Receivers.{is_exclude, local_receiver_exclude}, Registers.{settle_register, settle_registers, with_keepalive}, Sets.{assert_source, assert_star, inherited_olist, inherited_olist_rpt, is_kept_alive, is_loser, joins, joins_star, lost_assert, lost_assert_rpt, lost_assert_star, pim_exclude, pim_include_star, prunes, serves_star, spt_bit}, State.{Addressing, State, iface_count, is_own_among}, Step.{change, done, step}, Tables.{Table, change_row, has_row, row_at}, Unicast.is_rpf_interface, Writing.on_link}}

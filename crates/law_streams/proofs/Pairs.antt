@@ -79,7 +79,7 @@ same_station e f = grind arith
 by_end : (join : Join) (g : ℕ) (s : State) (row : JoinTimerRow) → row_at s.join_timers (join_key join 0 g) ≡ Some row → EndsBy join g row.end s
 by_end join g s row is = grind (arith, is_after, nat_tests)
 
-ends_no_later : (join : Join) (g x : ℕ) (s : State) (row : JoinTimerRow) → EndsBy join g x s → row_at s.join_timers (join_key join 0 g) ≡ Some row
+pub ends_no_later : (join : Join) (g x : ℕ) (s : State) (row : JoinTimerRow) → EndsBy join g x s → row_at s.join_timers (join_key join 0 g) ≡ Some row
     → row.end ≤ x
 ends_no_later join g x s row by is = grind (arith, is_after, nat_tests)
 
@@ -87,7 +87,7 @@ pub record HasTimer (join : Join) (g : ℕ) (s : State) : Type 0 where
   pub row : JoinTimerRow
   pub is : row_at s.join_timers (join_key join 0 g) ≡ Some row
 
-timer_runs : (join : Join) (g : ℕ) (s : State) → AreTimed s → is_wanted join s g ≡ true → HasTimer join g s
+pub timer_runs : (join : Join) (g : ℕ) (s : State) → AreTimed s → is_wanted join s g ≡ true → HasTimer join g s
 unfolding has_row
 timer_runs join g s timed wanted = go (row_at s.join_timers (join_key join 0 g)) refl (timer_is join s g timed ∙ wanted)
   where
@@ -95,7 +95,7 @@ timer_runs join g s timed wanted = go (row_at s.join_timers (join_key join 0 g))
     go None is e = cc e
     go (Some row) is e = record { row = row; is = is }
 
-raised_end : (join : Join) (g x y : ℕ) (s : State) → x ≤ y → EndsBy join g x s → EndsBy join g y s
+pub raised_end : (join : Join) (g x y : ℕ) (s : State) → x ≤ y → EndsBy join g x s → EndsBy join g y s
 raised_end join g x y s le f = go (row_at s.join_timers (join_key join 0 g)) f
   where
     go : (o : Option JoinTimerRow) → is_after x o ≡ false → is_after y o ≡ false
@@ -570,7 +570,7 @@ wants_so (Star rp) t g i within there unlost = wanted_star t g i within (listed_
 wants_so (Source src) t g i within there unlost = wanted_source t g src i within (listed_source t g src i there unlost)
 
 module _ (join : Join) (g : ℕ) (c : Pair) where
-  wants_on : (n : Network) → IsHeld join g c n → IsUnlost join g c n → AreThere join g c n → Wants join g c.upper n
+  pub wants_on : (n : Network) → IsHeld join g c n → IsUnlost join g c n → AreThere join g c n → Wants join g c.upper n
   unfolding has_row
   wants_on n held unlost there =
       let same : unlost.station ≡ held.station = same_station unlost.there held.there in

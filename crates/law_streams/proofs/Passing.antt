@@ -1,14 +1,14 @@
 -- A stream goes on to pass at one router.
 use Rattle.std.{proofs.{Common.{◌≡◌, ◌∙◌, ℕ, ◌<◌, ◌==◌, ◌&&◌, Bool, true, false, not, List, [], ◌∷◌, length, Option, Some, is_some, refl, sym, ap, subst, arith}, lemmas.Grind.common_steps}, specs.Cmp.{first_so, second_so, Derive.both_true}}
 use Rattle.pim_ip.{specs.Ipv4.Packet}
-use Rattle.pim_types.{specs.{Keys.{group_in, rpt_key, same_key, source_in, source_key, star_key}, declared.{config.{RpRange.RpRange, IfaceId.IfaceId}, event.Event.Event}}, proofs.Keys.equal_keys}
+use Rattle.pim_types.{specs.{Keys.{group_in, rpt_key, same_key, source_in, source_key, star_key}, declared.{config.{RpTable.RpTable, IfaceId.IfaceId}, event.Event.Event}}, proofs.Keys.equal_keys}
 use Rattle.pim_model.{specs.{declared.accepted.Accepted.Accepted, Cause.done_as, Sets.{assert_source, assert_star, is_loser, prunes, spt_bit}, State.{Addressing, State, is_own_among}, Step.{advanced, change, done, ran, rps_replaced, state_after, step, taken}, Tables.{has_row, row_at}, Unicast.{is_rpf_interface, route, rpf_interface}, Forwarding.forwarded}}
 use Rattle.law_settled.{proofs.{SettledStates.settled_is_lawful, Steps.step_is_settled}, specs.Ready.IsSettled}
 use Rattle.law_streams.{specs.{Copies.happens, Served.renewed, Passing.{ComesIn, EventKeepsPassing, GoesOut, IsJoinedThere, IsOn, IsOnShared, IsSourceJoinedThere, IsWanted, NoneEndsPassing, Receiver, RunKeepsPassing, Tree, serves_it, any_ends_passing, ends_passing, has_expired, has_moved, is_asked, is_lost, is_on_source, lacks_room, leaves_source, leaves_tree, membership_ends, takes_effect, takes_from, takes_link}}, proofs.{JoinTimes.{none_takes_effect, row_lasts}, Changes.{IsNoAssert, IsNotDown, IsQuietFor, chosen_spt, data_ground, other_data_off, same_ground, still_off, still_unlost, still_up}, Bits.join_keeps_spt_bit, ChangedBits.change_keeps_spt_bit, TimedBits.time_keeps_spt_bit, Fires.{Goes, time_goes}, MemberTimes.time_asks, MemberReports.report_asks, StreamMembers.{IsNoReport, settled_asks, still_asks}, Rejoins.{prunes_by, rejoined, source_rejoined}, Serving.renewed_too, Settles.{NoWorse, settling_no_worse}, Ways.{SameGround, ground_itself, same_interface, same_interface_rp}, Tests.{Four, Two, is_true, less_set, neither, none_of_four}, ByEvent.event_holds, Same.settled_same as settled_rows}}
 use Rattle.law_events.{proofs.Configured.change_configured}
 
 -- other RP ranges leave the way to a source
-ranges_way : (s : State) (w : ℕ) (ranges : List RpRange) (address i : ℕ) → is_rpf_interface s address i ≡ true
+ranges_way : (s : State) (w : ℕ) (ranges : RpTable) (address i : ℕ) → is_rpf_interface s address i ≡ true
     → is_rpf_interface (change s w (Accepted.Rps ranges)).state address i ≡ true
 unfolding change rps_replaced rpf_interface route
 ranges_way s w ranges address i e = e

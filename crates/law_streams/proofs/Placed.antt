@@ -33,4 +33,5 @@ kind_is_placed s n among kind =
       moments = λ m e. tt;
       routes = λ routes e. tt;
       ranges = λ ranges e. tt;
+      candidates = λ candidates e. tt;
     })

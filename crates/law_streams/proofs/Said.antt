@@ -4,7 +4,7 @@ use Rattle.pim_ip.{specs.{Ipv4.{Packet, ipv4_reading}, declared.refusal.Refusal.
 use Rattle.pim_types.{specs.declared.{config.IfaceId.IfaceId, event.EventKind.EventKind, outcome.{Ignored.Ignored, Stop.Stop}}}
 use Rattle.pim_wire.{specs.{Values.JoinPrune, declared.view.PimView.PimView}}
 use Rattle.igmp_wire.{specs.declared.view.IgmpView.IgmpView}
-use Rattle.pim_model.{specs.{declared.accepted.Accepted.Accepted, Judging.{Judged, advance_judged, assert_judged, data_judged, down_judged, frame_judged, hello_judged, igmp_accepted, igmp_judged, igmp_message_judged, ignore_if, join_prune_judged, judged, of_read, packet_judged, pim_judged, pim_message_judged, pim_to_me_judged, refuse_if, register_judged, register_stop_judged, routes_judged, rps_judged, unicast_judged, unicast_packet_judged, up_judged, ◌>>◌}, State.State}}
+use Rattle.pim_model.{specs.{declared.accepted.Accepted.Accepted, Judging.{Judged, advance_judged, assert_judged, candidates_judged, data_judged, down_judged, frame_judged, hello_judged, igmp_accepted, igmp_judged, igmp_message_judged, ignore_if, join_prune_judged, judged, of_read, packet_judged, pim_judged, pim_message_judged, pim_to_me_judged, refuse_if, register_judged, register_stop_judged, routes_judged, rps_judged, unicast_judged, unicast_packet_judged, up_judged, ◌>>◌}, State.State, Unicast.{with_candidates, with_ranges}}}
 use Rattle.law_settled.{proofs.ListLaws.{by_cond, each_more, each_of_list}}
 use Rattle.law_streams.{specs.Uncounted.is_of_bytes, proofs.{Announced.{AreSmall, IsGood, ReadsShort, ReadsSmall, message_short, packet_small}, OverrideEnds.IsBriefly}}
 
@@ -64,7 +64,7 @@ module _ (s : State) where
   unicast_said p = grind (arith, by_cond, read_then, ignore_then, pim_to_me_said, stops)
 
   pub kind_said : (kind : EventKind) → is_of_bytes kind ≡ true → IsSaid (judged s kind)
-  unfolding judged frame_judged unicast_judged up_judged down_judged routes_judged rps_judged advance_judged
+  unfolding judged frame_judged unicast_judged up_judged down_judged routes_judged rps_judged candidates_judged advance_judged
   kind_said (EventKind.Advance moment) e =
       refuse_then _ Refusal.MomentBack _ (refuse_then _ Refusal.MomentFar _ (accepted (Accepted.Advance moment) tt))
   kind_said (EventKind.Frame i bytes) e =
@@ -77,4 +77,6 @@ module _ (s : State) where
   kind_said (EventKind.Up i) e = refuse_then _ Refusal.NoInterface _ (ignore_then _ Ignored.Already _ (accepted (Accepted.Up i) tt))
   kind_said (EventKind.Down i) e = refuse_then _ Refusal.NoInterface _ (ignore_then _ Ignored.Already _ (accepted (Accepted.Down i) tt))
   kind_said (EventKind.Routes routes) e = refuse_then _ Refusal.BadRoutes _ (accepted (Accepted.Routes routes) tt)
-  kind_said (EventKind.Rps rps) e = refuse_then _ Refusal.BadRps _ (accepted (Accepted.Rps rps) tt)
+  kind_said (EventKind.Rps rps) e = refuse_then _ Refusal.BadRps _ (accepted (Accepted.Rps (with_ranges s.ranges rps)) tt)
+  kind_said (EventKind.RpCandidates candidates) e =
+      refuse_then _ Refusal.BadCandidates _ (accepted (Accepted.Rps (with_candidates s.ranges candidates)) tt)

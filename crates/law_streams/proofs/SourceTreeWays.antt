@@ -1,5 +1,5 @@
 -- The first packet of a source comes down a way that was joined, and turns each router of it.
-use Rattle.std.{proofs.Common.{◌≡◌, ◌∙◌, ℕ, ◌+◌, ◌-◌, ◌<◌, ◌==◌, false, true, List, [], ◌∷◌, ◌++◌, length, Some, refl, sym, ap, subst, arith, length-append}, specs.List.Contains}
+use Rattle.std.{proofs.Common.{◌≡◌, ◌∙◌, ℕ, ◌+◌, ◌<◌, ◌==◌, false, true, List, [], ◌∷◌, ◌++◌, length, Some, refl, sym, ap, subst, arith, length-append}, specs.List.Contains}
 use Rattle.pim_ip.{specs.Ipv4.{copy_text, is_link_local, is_multicast}}
 use Rattle.pim_types.{specs.declared.event.Event.Event}
 use Rattle.pim_model.{specs.{Network.{Move, Network, moved, network_ran, station_at}, Step.step, Writing.on_link}}

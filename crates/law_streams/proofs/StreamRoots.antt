@@ -3,7 +3,7 @@ use Rattle.std.{proofs.Common.{◌≡◌, ◌∙◌, ℕ, ◌+◌, ◌<◌, true
 use Rattle.pim_ip.{specs.{Ipv4.{copy_text, is_link_local}, View.copied}}
 use Rattle.pim_types.{specs.{Keys.{rpt_key, star_key}, declared.{event.{Event.Event, EventKind.EventKind}}}}
 use Rattle.pim_wire.{specs.Values.Encapsulated}
-use Rattle.pim_model.{specs.{declared.accepted.Accepted.Accepted, Cause.done_as, Full.{is_full, source_is_full}, Judging.{judged, pim_to_me_judged, register_judged, unicast_judged, unicast_packet_judged}, Network.{At, Network, moved, network_ran, station_at}, Sets.{assert_source, assert_star, is_loser, prunes, spt_bit}, State.{Addressing, State, is_own}, Step.{advanced, change, done, ran, state_after, step, taken}, Tables.{has_row, row_at}, Unicast.{is_rp, rp_of}, Writing.on_link}}
+use Rattle.pim_model.{specs.{declared.accepted.Accepted.Accepted, Cause.done_as, Full.{is_full, source_is_full}, Judging.{judged, pim_to_me_judged, register_judged, unicast_judged, unicast_packet_judged}, Network.{At, Network, moved, network_ran, station_at}, Sets.{assert_source, assert_star, is_loser, prunes, spt_bit}, State.{Addressing, State, is_own}, Step.{advanced, change, done, ran, state_after, step, taken}, Tables.{has_row, row_at}, Unicast.{is_rp, rp_of}}}
 use Rattle.law_streams.{specs.{Networks.events_in, Copies.happens, Served.IsServed, Flows.{IsCarried, top_link}, Roots.{InRegister, IsBrought, IsRegister}, Ways.{Place, state_of}, Passing.{GoesOut, IsJoinedThere, Receiver, is_lost, takes_from}, StreamRoots.{EachOfStreamIsServed, EachRegisterIsBrought, EventKeepsSending, NoneEndsSending, RunKeepsSending, Sends, any_ends_sending, ends_sending, takes_out}, Streams.later_place}, proofs.{Networks.runs_alone, Climbs.still_stand, Deliveries.{IsStepped, is_moved}, Forwards.{copy_fits, copy_reads_lower}, Passes.done_if, Roots.leaves_root, JoinTimes.{none_takes_effect, row_lasts}, Changes.{IsNoAssert, IsNotDown, still_unlost}, Fires.{Goes, time_goes}, Rejoins.{prunes_by, rejoined}, Settles.{NoWorse, settling_no_worse}, Streams.{streams, flowed_so, later_apart, later_not_among, later_stand, later_streamed, same_length, same_top}, Ways.ground_itself, Tests.{Two, neither}, ByEvent.event_holds}}
 use Rattle.law_settled.{proofs.{SettledStates.settled_is_lawful, Steps.step_is_settled}, specs.Ready.IsSettled}
 use Rattle.law_events.{proofs.Configured.change_configured}

@@ -30,7 +30,7 @@ module _ (o : State) (c : State × List Message) (w : ℕ) (f : AreTimed o) (sam
   unfolding source_view
   source_settled g src = grind (arith, told_stays, source_told_so, cleared_keeps, same_source_view)
 
-  settled_timed : AreTimed t
+  pub settled_timed : AreTimed t
   settled_timed = record { stars = star_settled; sources = source_settled }
 
 -- ---- time
@@ -50,7 +50,7 @@ module _ (w : ℕ) where
       kept_to_the_end (next_due e.end) (fire_once w) AreTimed (λ u d g there. firing_keeps_timed w u d g) (length (timers s) + 1)
       s f
 
-  later_timed : (s : State) (m : ℕ) → AreTimed s → AreTimed (record s { present = m })
+  pub later_timed : (s : State) (m : ℕ) → AreTimed s → AreTimed (record s { present = m })
   later_timed s m f = record {
     stars = λ g.
         f.stars g

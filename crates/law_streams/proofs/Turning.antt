@@ -1,5 +1,5 @@
 -- A packet on the way to its source sets SPTbit, and the router passes the stream on the source's tree from then on.
-use Rattle.std.{proofs.Common.{◌≡◌, ◌∙◌, ℕ, ◌<◌, ◌&&◌, ◌||◌, Bool, true, false, not, Option, Some, inr, is_some, length, List, refl, sym, ap, subst}, specs.{Cmp.{second_so, Derive.both_true}, List.{Contains, list_any}, Option.option_map_or}}
+use Rattle.std.{proofs.Common.{◌≡◌, ◌∙◌, ℕ, ◌<◌, ◌&&◌, ◌||◌, Bool, true, false, not, Option, Some, inr, is_some, length, refl, sym, ap, subst}, specs.{Cmp.{second_so, Derive.both_true}, List.{Contains, list_any}, Option.option_map_or}}
 use Rattle.pim_ip.{specs.Ipv4.{Packet, copy_text}}
 use Rattle.pim_types.{specs.{Keys.{source_key, star_key}, declared.{event.Event.Event, fact.{DownstreamRow.DownstreamRow, Key.Key, RegisterRow.RegisterRow, SourceRow.SourceRow}}}}
 use Rattle.pim_model.{specs.{declared.accepted.Accepted.Accepted, Asserts.with_spt_bit, Desires.{join_desired, rpf_source, rpf_star}, Forwarding.{forwarded, is_spt_reached, source_here, source_joined, spt_updated, when}, Neighbours.{is_dr, nbr}, Receivers.{is_exclude, local_receiver_exclude}, Registers.{settle_register, with_keepalive}, Sets.{Set, assert_source, inherited_olist_rpt, is_empty, is_loser, joins_star, lost_assert_rpt, lost_assert_star, pim_exclude, pim_include_star, prunes, serves_star, spt_bit}, State.{Addressing, State, ifaces, is_own_among}, Step.{change, done, step}, Tables.{Table, has_row, row_at, same_hop, same_option}, Unicast.{is_connected, is_rpf_interface, is_rpf_interface_rp, route, rp_of, rp_route, rpf_interface, rpf_interface_rp}, Writing.on_link}}

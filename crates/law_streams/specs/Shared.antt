@@ -1,13 +1,22 @@
 -- Joins of other routers on a link, for which a router holds its own back, as frames: each that is sent comes to the
 -- upper one in time, and the lower one sees it in time.
-use Rattle.std.{specs.Prelude.{List, Some, [], false, length, true, ℕ, ◌+◌, ◌<◌, ◌==◌, ◌∷◌, ◌≡◌, ◌≤◌, ◌⊎◌}}
+use Rattle.std.{specs.Prelude.{List, Some, [], false, length, slice_get, true, ℕ, ◌+◌, ◌<◌, ◌==◌, ◌∷◌, ◌≡◌, ◌≤◌, ◌⊎◌}}
 use Rattle.pim_types.{specs.declared.{event.{Event.Event, EventKind.EventKind}, fact.JoinTimerRow.JoinTimerRow, path.Hop.Hop}}
-use Rattle.pim_model.{specs.{Cause.done_as, Network.{Deliver, Move, Network, Sent, Station, event_of, frame_at, moved, station_at}, State.{State, my_address}, Tables.row_at}}
-use Rattle.law_streams.{specs.{Copies.happens, Joins.{Hears, IsWritable, join_packet}, InTimeJoins.{Always, AreInTime, AreThere, ComesBy, IsBy, IsJoin, IsReady, IsRp, IsTaken, Join, Pair, entry_of, frame_of, is_suppressed, join_key, most_late, most_late_shared, prunes_it, prunes_of, time_at}}}
+use Rattle.pim_model.{specs.{Cause.done_as, Network.{Deliver, Move, Network, Sent, Station, event_of, frame_at, moved, station_at}, State.{State, is_up, my_address}, Tables.row_at}}
+use Rattle.law_streams.{specs.{Copies.happens, Joins.{Hears, IsWritable, join_packet}, InTimeJoins.{Always, AreInTime, ComesBy, IsBy, IsJoin, IsReady, IsRp, IsTaken, Join, Pair, entry_of, frame_of, is_suppressed, join_key, most_late, most_late_shared, prunes_it, prunes_of, time_at}}}
 
 -- a Join to the upper one from a router on the link, by that router's address
 abbrev pub frame_from : Join → ℕ → Pair → (from : ℕ) → List ℕ → Sent
 frame_from x g c from pruned = frame_of x g (record c { from = from }) pruned
+
+-- the upper one is up on the link, with the address to which Joins go, and has the RP; nothing is asked of its neighbours
+pub record IsAbove (x : Join) (g : ℕ) (c : Pair) (n : Network) : Type 0 where
+  pub station : Station
+  pub there : station_at n c.upper ≡ Some station
+  pub rp_known : IsRp x station.state g
+  pub up : is_up station.state c.down ≡ true
+  pub own : my_address station.state c.down ≡ (c.hop).address.bits
+  pub linked : slice_get station.links c.down ≡ Some c.link
 
 -- the move delivers the frame of a number to the upper one, to which its sender is a live neighbour
 pub record IsTakenFrom (x : Join) (g : ℕ) (started : ℕ → ℕ) (c : Pair) (from : ℕ) (pruned : List ℕ) (number sent : ℕ) (n : Network) (m : Move) : Type 0 where
@@ -83,5 +92,5 @@ JoinSuppresses = (x : Join) (g : ℕ) (hop : Hop) (s : State) (from draw : ℕ) 
 -- Where the frames of others' Joins come in time, these Joins come to both, and so all Joins come in time.
 abbrev pub FramesComeToBoth : Type 0
 FramesComeToBoth = (x : Join) (g d : ℕ) (started sent : ℕ → ℕ) (c : Pair) (n : Network) (ms : List Move) → IsJoin x g
-    → d < most_late → IsReady c.upper n → Always (AreThere x g c) n ms
+    → d < most_late → IsReady c.upper n → Always (IsAbove x g c) n ms
     → AreOnLink x g d started sent c (length n.frames) n ms → AreInTime x g d started c n ms

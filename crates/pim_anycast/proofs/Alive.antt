@@ -314,6 +314,7 @@ time_goes_on s e rest = go e.kind refl
     go (EventKind.Down i) is = time_stays s e _ is tt rest
     go (EventKind.Routes routes) is = time_stays s e _ is tt rest
     go (EventKind.Rps rps) is = time_stays s e _ is tt rest
+    go (EventKind.RpCandidates candidates) is = time_stays s e _ is tt rest
 
 -- ---- the laws
 

@@ -25,6 +25,7 @@ kind_same s (EventKind.Up i) = refl
 kind_same s (EventKind.Down i) = refl
 kind_same s (EventKind.Routes routes) = refl
 kind_same s (EventKind.Rps rps) = refl
+kind_same s (EventKind.RpCandidates candidates) = refl
 
 pub none_before : (s : State) (kind : EventKind) → sent_before [] s kind ≡ []
 none_before s (EventKind.Unicast bytes) = ap copies_of (bytes_same s.ranges bytes)
@@ -34,6 +35,7 @@ none_before s (EventKind.Up i) = refl
 none_before s (EventKind.Down i) = refl
 none_before s (EventKind.Routes routes) = refl
 none_before s (EventKind.Rps rps) = refl
+none_before s (EventKind.RpCandidates candidates) = refl
 
 pub none_after : (s t : State) (kind : EventKind) → sent_after [] s t kind ≡ []
 none_after s t (EventKind.Unicast bytes) = refl
@@ -49,6 +51,7 @@ none_after s t (EventKind.Up i) = refl
 none_after s t (EventKind.Down i) = refl
 none_after s t (EventKind.Routes routes) = refl
 none_after s t (EventKind.Rps rps) = refl
+none_after s t (EventKind.RpCandidates candidates) = refl
 
 outcome_same : (s t : State) (kind : EventKind) (o : Outcome) → outcome_with [] s t kind o ≡ o
 unfolding outcome_with

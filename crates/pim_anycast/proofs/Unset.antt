@@ -1,12 +1,12 @@
 -- Without a set the front says nothing.
 use Rattle.std.{proofs.Common.{◌≡◌, ℕ, Bool, true, false, cond, is_some, List, [], ◌∷◌, Option, Some, None, option_and_then, option_map, Result, Ok, Err, refl, ap}}
 use Rattle.pim_ip.{specs.{Ipv4.{Packet, ipv4_reading}, declared.refusal.Refusal.Refusal}}
-use Rattle.pim_types.{specs.{Keys.{group_in, source_in}, declared.{config.RpRange.RpRange, fact.Key.Key}}}
+use Rattle.pim_types.{specs.{Keys.{group_in, source_in}, declared.{config.RpTable.RpTable, fact.Key.Key}}}
 use Rattle.pim_wire.{specs.RegisterParts.registered_group}
 use Rattle.pim_model.{specs.{Tables.is_empty_list, Unicast.rp_among}}
 use Rattle.pim_anycast.{specs.{Announced.{announced, announced_all, announced_due, announced_new, is_announced, is_due}, Passed.{group_passed, packet_passed, passed, reading_passed, register_in}, Sets.{set_for, set_sharing}, declared.{front.Passed.Passed, set.RpSet.RpSet}}}
 
-no_set : (ranges : List RpRange) (g : ℕ) → set_for [] ranges g ≡ None
+no_set : (ranges : RpTable) (g : ℕ) → set_for [] ranges g ≡ None
 unfolding set_for set_sharing
 no_set ranges g = go (rp_among ranges g)
   where
@@ -14,7 +14,7 @@ no_set ranges g = go (rp_among ranges g)
     go None = refl
     go (Some rp) = refl
 
-module _ (ranges : List RpRange) where
+module _ (ranges : RpTable) where
   none_passed : (p : Packet) (g : Option ℕ) → group_passed [] ranges p g ≡ Passed.AsItCame
   none_passed p None = refl
   none_passed p (Some g) = rw (no_set ranges g) refl
@@ -58,17 +58,17 @@ module _ (ranges : List RpRange) where
 
 -- ---- for the code, which tests whether there is a set
 
-pub unset_passed : (sets : List RpSet) (ranges : List RpRange) (bytes : List ℕ) → is_empty_list sets ≡ true
+pub unset_passed : (sets : List RpSet) (ranges : RpTable) (bytes : List ℕ) → is_empty_list sets ≡ true
     → passed sets ranges bytes ≡ Passed.AsItCame
 unset_passed [] ranges bytes e = bytes_same ranges bytes
 unset_passed (set ∷ sets) ranges bytes e = cc e
 
-pub unset_here : (sets : List RpSet) (ranges : List RpRange) (here : Bool) (g : ℕ) → is_empty_list sets ≡ true
+pub unset_here : (sets : List RpSet) (ranges : RpTable) (here : Bool) (g : ℕ) → is_empty_list sets ≡ true
     → is_announced sets ranges here g ≡ false
 unset_here [] ranges here g e = none_here ranges here g
 unset_here (set ∷ sets) ranges here g e = cc e
 
-pub unset_due : (sets : List RpSet) (ranges : List RpRange) (keys : List Key) (before present : ℕ) → is_empty_list sets ≡ true
+pub unset_due : (sets : List RpSet) (ranges : RpTable) (keys : List Key) (before present : ℕ) → is_empty_list sets ≡ true
     → announced_due sets ranges keys before present ≡ []
 unset_due [] ranges keys before present e = none_due ranges keys before present
 unset_due (set ∷ sets) ranges keys before present e = cc e

@@ -1,7 +1,7 @@
 -- Null-Registers for sources on a router's own links. The DR of such a source registers it with the RP, and where it is the
 -- RP itself no Register exists that could go to the others of the set.
 use Rattle.std.{specs.{Option.option_map_or, Prelude.{Bool, List, None, Option, Some, [], ◌∷◌, false, filter, flat_map, if◌then◌else◌, is_some, map, nat_le, nat_lt, ℕ, ◌&&◌, ◌*◌, ◌+◌, ◌/◌}}}
-use Rattle.pim_types.{specs.{Keys.{group_in, source_in, source_key}, declared.{config.RpRange.RpRange, fact.Key.Key, name.SourceGroup.SourceGroup, outcome.Emission.Emission}}}
+use Rattle.pim_types.{specs.{Keys.{group_in, source_in, source_key}, declared.{config.RpTable.RpTable, fact.Key.Key, name.SourceGroup.SourceGroup, outcome.Emission.Emission}}}
 use Rattle.pim_wire.{specs.Registers.null_register_text}
 use Rattle.pim_model.{specs.{Judging.last_moment, Registers.is_dr_of_path, Sets.is_kept_alive, State.State, Tables.keys_in, Unicast.route, Writing.unicast_time_to_live}}
 use Rattle.pim_anycast.{specs.{Sets.{set_for, to_others}, declared.set.RpSet.RpSet}}
@@ -20,17 +20,17 @@ abbrev pub keys_named : List SourceGroup → List Key
 keys_named names = map (λ (n : SourceGroup). source_key 0 n.group.bits n.source.bits) names
 
 -- the Null-Registers of a source, to the others of the set that shares RP(G)
-unfoldable pub announced : List RpSet → List RpRange → ℕ → ℕ → List Emission
+unfoldable pub announced : List RpSet → RpTable → ℕ → ℕ → List Emission
 announced sets ranges g src =
     option_map_or (λ set. to_others set unicast_time_to_live (null_register_text src g)) (set_for sets ranges g) []
 
 -- a source of the group is announced, where it is local
-unfoldable pub is_announced : List RpSet → List RpRange → Bool → ℕ → Bool
+unfoldable pub is_announced : List RpSet → RpTable → Bool → ℕ → Bool
 is_announced sets ranges here g = here && is_some (set_for sets ranges g)
 
 -- after a packet of a source, which was announced before it or wasn't, and is local then or isn't: at once, where it is
 -- announced from then on
-unfoldable pub announced_new : List RpSet → List RpRange → (before here : Bool) → ℕ → ℕ → List Emission
+unfoldable pub announced_new : List RpSet → RpTable → (before here : Bool) → ℕ → ℕ → List Emission
 announced_new sets ranges before here g src =
     if before then [] else (if here then announced sets ranges g src else [])
 
@@ -45,11 +45,11 @@ abbrev pub is_due : ℕ → ℕ → Bool
 is_due before after = nat_lt (before / announcement_interval) (after / announcement_interval)
 
 -- all sources of a list are announced
-unfoldable pub announced_all : List RpSet → List RpRange → List Key → List Emission
+unfoldable pub announced_all : List RpSet → RpTable → List Key → List Emission
 announced_all sets ranges keys = flat_map (λ k. announced sets ranges (group_in k) (source_in k)) keys
 
 -- what leaves after time passed from one timestamp to another, where these sources are local then
-unfoldable pub announced_due : List RpSet → List RpRange → List Key → (before present : ℕ) → List Emission
+unfoldable pub announced_due : List RpSet → RpTable → List Key → (before present : ℕ) → List Emission
 announced_due sets ranges keys before present = if is_due before present then announced_all sets ranges keys else []
 
 -- a timestamp, if it isn't too late for an event

@@ -15,6 +15,7 @@ kind_given sets s (EventKind.Up i) = EventKind.Up i
 kind_given sets s (EventKind.Down i) = EventKind.Down i
 kind_given sets s (EventKind.Routes routes) = EventKind.Routes routes
 kind_given sets s (EventKind.Rps rps) = EventKind.Rps rps
+kind_given sets s (EventKind.RpCandidates candidates) = EventKind.RpCandidates candidates
 
 -- an event as the router is given it
 unfoldable pub event_given : List RpSet → State → Event → Event

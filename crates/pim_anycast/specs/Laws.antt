@@ -1,7 +1,7 @@
 -- What holds of a router behind the front.
 use Rattle.std.{specs.Prelude.{IsTrue, List, Ok, Some, [], length, nat_le, true, ℕ, ◌+◌, ◌<◌, ◌^◌, ◌≡◌, ◌≤◌}}
 use Rattle.pim_ip.{specs.{Ipv4.{Packet, is_unicast, packet_limit, pim_packet_text, protocol_pim}, View.written_packet}}
-use Rattle.pim_types.{specs.declared.{config.RpRange.RpRange, event.Event.Event, outcome.Outcome.Outcome}}
+use Rattle.pim_types.{specs.declared.{config.RpTable.RpTable, event.Event.Event, outcome.Outcome.Outcome}}
 use Rattle.pim_wire.{specs.{Messages.pim_reading, RegisterParts.registered_group, Values.Register, declared.view.PimView.PimView}}
 use Rattle.pim_model.{specs.{Judging.{register_judged, unicast_judged}, State.{State, is_own}, Step.{run, state_after}}}
 use Rattle.pim_anycast.{specs.{Announced.{is_due, next_announcement}, Joined.{events_given, joined, outcomes_with}, Passed.{bytes_given, copies_of, packet_passed, passed, register_in}, Sets.{is_other, set_for}, declared.set.RpSet.RpSet}}
@@ -40,7 +40,7 @@ CopyIsTaken =
 -- What came from another of the set goes to none of them.
 abbrev pub NoneSentBack : Type 0
 NoneSentBack =
-    (sets : List RpSet) (ranges : List RpRange) (p : Packet) (r : Register) (set : RpSet) → register_in p ≡ Some r
+    (sets : List RpSet) (ranges : RpTable) (p : Packet) (r : Register) (set : RpSet) → register_in p ≡ Some r
     → set_for sets ranges (registered_group r) ≡ Some set → is_other set p.source ≡ true
     → copies_of (packet_passed sets ranges p) ≡ []
 

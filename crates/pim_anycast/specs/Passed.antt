@@ -1,7 +1,7 @@
 -- What a router of a set makes of a packet that comes by unicast. Sections are those of RFC 4610.
 use Rattle.std.{specs.{Option.option_map_or, Prelude.{Bool, Err, List, None, Ok, Option, Result, Some, [], if◌then◌else◌, nat_lt, not, option_map, ℕ, ◌&&◌, ◌-◌, ◌==◌}}}
 use Rattle.pim_ip.{specs.{Ipv4.{Packet, ipv4_reading, pim_packet_text, protocol_pim}, declared.refusal.Refusal.Refusal}}
-use Rattle.pim_types.{specs.declared.{config.RpRange.RpRange, outcome.Emission.Emission}}
+use Rattle.pim_types.{specs.declared.{config.RpTable.RpTable, outcome.Emission.Emission}}
 use Rattle.pim_wire.{specs.{Messages.pim_reading, RegisterParts.registered_group, Values.Register, declared.view.PimView.PimView}}
 use Rattle.pim_anycast.{specs.{Sets.{is_other, set_for, to_others}, declared.{front.Passed.Passed, set.RpSet.RpSet}}}
 
@@ -42,20 +42,20 @@ passed_by set p =
     else (if is_copy set p then Passed.Counted (counted_text set p) else Passed.AsItCame)
 
 -- a packet with a Register of a group counts for the set that shares RP(G)
-abbrev pub group_passed : List RpSet → List RpRange → Packet → Option ℕ → Passed
+abbrev pub group_passed : List RpSet → RpTable → Packet → Option ℕ → Passed
 group_passed sets ranges p None = Passed.AsItCame
 group_passed sets ranges p (Some g) = option_map_or (λ set. passed_by set p) (set_for sets ranges g) Passed.AsItCame
 
 -- any other packet is given as it came, as a Register-Stop from another of the set
-unfoldable pub packet_passed : List RpSet → List RpRange → Packet → Passed
+unfoldable pub packet_passed : List RpSet → RpTable → Packet → Passed
 packet_passed sets ranges p = group_passed sets ranges p (option_map registered_group (register_in p))
 
-abbrev pub reading_passed : List RpSet → List RpRange → Result Packet Refusal → Passed
+abbrev pub reading_passed : List RpSet → RpTable → Result Packet Refusal → Passed
 reading_passed sets ranges (Ok p) = packet_passed sets ranges p
 reading_passed sets ranges (Err refusal) = Passed.AsItCame
 
 -- What becomes of bytes that come by unicast, by the RP ranges of the router.
-unfoldable pub passed : List RpSet → List RpRange → List ℕ → Passed
+unfoldable pub passed : List RpSet → RpTable → List ℕ → Passed
 passed sets ranges bytes = reading_passed sets ranges (ipv4_reading bytes)
 
 -- what the router is given for the bytes

@@ -2,7 +2,7 @@
 -- others of a set.
 use Rattle.std.{specs.{List.{list_all, list_any}, Prelude.{Bool, List, Option, find, length, map, nat_le, not, option_and_then, ℕ, ◌&&◌, ◌==◌}}}
 use Rattle.pim_ip.{specs.{Ipv4.{is_unicast, pim_packet_text}, declared.addr.Addr.Addr}}
-use Rattle.pim_types.{specs.declared.{config.RpRange.RpRange, outcome.Emission.Emission}}
+use Rattle.pim_types.{specs.declared.{config.RpTable.RpTable, outcome.Emission.Emission}}
 use Rattle.pim_model.{specs.{Limits.are_once, State.{Addressing, is_own_among}, Unicast.rp_among}}
 use Rattle.pim_anycast.{specs.declared.set.RpSet.RpSet}
 
@@ -47,7 +47,7 @@ unfoldable pub set_sharing : List RpSet → ℕ → Option RpSet
 set_sharing sets address = find (λ (set : RpSet). set.shared.bits == address) sets
 
 -- the set that shares RP(G), by the RP ranges
-unfoldable pub set_for : List RpSet → List RpRange → ℕ → Option RpSet
+unfoldable pub set_for : List RpSet → RpTable → ℕ → Option RpSet
 set_for sets ranges g = option_and_then (set_sharing sets) (rp_among ranges g)
 
 -- ---- what is sent

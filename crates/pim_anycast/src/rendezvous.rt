@@ -3,7 +3,7 @@ ghost use Rattle.std.specs.Prelude.{◌≡◌, ℕ, Bool, IfOk, List, option_map
 ghost use Rattle.pim_anycast.specs.Announced.{keys_named};
 ghost use Rattle.pim_model.specs.State.{Addressing, is_own_among};
 ghost use Rattle.pim_model.specs.Unicast.{rp_among};
-ghost use Rattle.pim_types.specs.declared.config.RpRange.{RpRange};
+ghost use Rattle.pim_types.specs.declared.config.RpTable.{RpTable};
 ghost use Rattle.pim_types.specs.declared.fact.Key.{Key};
 
 use pim_types::{Addr, SourceGroup};
@@ -25,7 +25,7 @@ pub trait Rendezvous {
     ghost present: { Self → ℕ };
 
     /// The router's RP ranges.
-    ghost ranges: { Self → List RpRange };
+    ghost ranges: { Self → RpTable };
 
     /// Whether a source of a group is local: it is on a link of which the router is the DR, and its keepalive timer runs.
     ghost is_local: { Self → ℕ → ℕ → Bool };

@@ -3,7 +3,8 @@ ghost use Rattle.std.specs.Prelude.{◌≡◌, ◌+◌, ◌-◌, ◌*◌, ◌≤
 ghost use Rattle.pim_bootstrap.specs.Bootstraps.{after_range, bootstrap_of, bootstrap_test, bootstrap_reading, candidate_at, candidate_test, candidates_at, candidates_test, part_count_at, range_test, ranges_test};
 
 use crate::encoded::{
-    UNICAST_LENGTH, address_at, check_field, check_group, check_unicast, u16_at, unicast_at,
+    HEADER_LENGTH, UNICAST_LENGTH, address_at, check_field, check_group, check_unicast, u16_at,
+    unicast_at,
 };
 use pim_ip::{Addr, Refusal};
 use std::marker::Model;
@@ -18,14 +19,11 @@ pub struct CandidateRp {
     pub priority: u8,
 }
 
-/// The length of PIM's header.
-const HEADER_LENGTH: usize = 4;
-
 /// The length of an RP in a Bootstrap.
-const CANDIDATE_LENGTH: usize = 10;
+pub(crate) const CANDIDATE_LENGTH: usize = 10;
 
 /// The length of a range's group and counts.
-const RANGE_HEADER: usize = 12;
+pub(crate) const RANGE_HEADER: usize = 12;
 
 /// The place of the first range.
 const FIRST_RANGE: usize = 14;

@@ -8,11 +8,20 @@ ghost use Rattle.pim_ip.specs.Addr.{addr};
 use byteorder::{BigEndian, ByteOrder};
 use pim_ip::{Addr, Refusal};
 
+/// The length of PIM's header.
+pub(crate) const HEADER_LENGTH: usize = 4;
+
 /// The length of an Encoded-Unicast address.
 pub(crate) const UNICAST_LENGTH: usize = 6;
 
 /// The length of an Encoded-Source or an Encoded-Group address.
-const SOURCE_LENGTH: usize = 8;
+pub(crate) const SOURCE_LENGTH: usize = 8;
+
+/// The first byte of a message of a type: version 2 is in its upper half.
+pub(crate) const VERSION_BITS: u8 = 0x20;
+
+/// The place of a message's checksum.
+pub(crate) const CHECKSUM_PLACE: usize = 2;
 
 /// The 16 bits at a place.
 pub(crate) fn u16_at(bytes: &[u8], place: usize) -> u16

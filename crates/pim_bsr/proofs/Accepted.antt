@@ -1,9 +1,9 @@
 -- The router refuses what it is given exactly where it would refuse the configured ranges alone.
-use Rattle.std.{proofs.{Common.{◌≡◌, ℕ, ◌+◌, ◌-◌, ◌<◌, ◌≤◌, Bool, true, false, cond, min, not, nat_le, nat_lt, ◌&&◌, ◌||◌, ◌==◌, List, [], ◌∷◌, ◌++◌, filter, length, map, refl, sym, ap, ◌∙◌, arith}, lemmas.{Bool.Decides.nat_tests, List.length-append}}, specs.{List.{list_all, list_any}, Prelude.if◌then◌else◌}}
+use Rattle.std.{proofs.{Common.{◌≡◌, ℕ, ◌≤◌, Bool, true, false, not, nat_le, nat_lt, ◌&&◌, ◌==◌, List, [], ◌∷◌, ◌++◌, filter, length, map, refl, sym, ap, ◌∙◌, arith}, lemmas.{Bool.Decides.nat_tests, List.length-append}}, specs.{List.{list_all, list_any}}}
 use Rattle.pim_ip.{specs.declared.addr.Prefix.Prefix}
 use Rattle.pim_types.{specs.declared.config.RpRange.RpRange}
 use Rattle.pim_model.{specs.Limits.{are_distinct, are_rps, is_rp_range, most_rps, same_prefix}}
-use Rattle.pim_bsr.{specs.{Choice.{is_beaten_by, is_better, is_chosen, lower_or, range_value}, Sound.{AreSound, GivenIsAccepted, IsSoundTable, are_apart}, Table.{Known, Table, fitting, given_of, is_configured, is_given, kept_count, range_of, room_beside, same_range}, declared.learned.Learned.Learned}, proofs.{Lists.{and_both, and_fails, and_first, and_second, both_pass, fewer, first_fails, first_passes, length-map_of, map_both, neither, not_false, not_true, or_first, or_second, same_by}, Sounder.fitting_sound}}
+use Rattle.pim_bsr.{specs.{Choice.{is_beaten_by, is_better, is_chosen, lower_or, range_value}, Sound.{AreSound, GivenIsAccepted, IsSoundTable, are_apart}, Table.{Table, fitting, given_of, is_configured, is_given, kept_count, range_of, ranges_by, room_beside, same_range}, declared.{choice.Choice.Choice, learned.Learned.Learned}}, proofs.{Lists.{and_both, and_first, and_second, both_pass, fewer, first_fails, first_passes, length-map_of, map_both, neither, not_false, not_true, or_first, or_second, same_by}, Sounder.fitting_sound}}
 
 -- ---- of two RPs of a range one is better
 
@@ -203,21 +203,27 @@ module _ (static : List RpRange) (limit : ℕ) (rps : List Learned) (sound : Are
       same_by (are_rps (static ++ learned)) (are_rps static) (λ e. taken_by static (back (tests_of (static ++ learned) e)))
       (λ e. taken_by (static ++ learned) (onward (tests_of static e)))
 
-kept_rps : (static : List RpRange) (limit : ℕ) (t : Table) → IsSoundTable static limit t → length t.rps ≤ room_beside limit static
+pub kept_rps : (static : List RpRange) (limit : ℕ) (t : Table) → IsSoundTable static limit t → length t.rps ≤ room_beside limit static
 unfolding kept_count
 kept_rps static limit t sound = omega (arith, sound.kept)
 
 -- what is given of a sound table
-pub accepted : (static : List RpRange) (limit : ℕ) (t : Table) → IsSoundTable static limit t
+accepted : (static : List RpRange) (limit : ℕ) (t : Table) → IsSoundTable static limit t
     → are_rps (given_of static t.rps) ≡ are_rps static
 accepted static limit t sound = as_configured static limit t.rps sound.rps (kept_rps static limit t sound)
 
+-- whatever an RP is chosen for
+pub accepted_by : (choice : Choice) (static : List RpRange) (limit : ℕ) (t : Table) → IsSoundTable static limit t
+    → are_rps (ranges_by choice static t.rps) ≡ are_rps static
+accepted_by Choice.Range static limit t sound = accepted static limit t sound
+accepted_by Choice.Group static limit t sound = refl
+
 pub given_is_accepted : GivenIsAccepted
-given_is_accepted k sound = accepted k.static k.limit k.table sound
+given_is_accepted k sound = accepted_by k.choice k.static k.limit k.table sound
 
 -- what is given of it beside other configured ranges
-pub accepted_beside : (static others : List RpRange) (limit other : ℕ) (t : Table) → IsSoundTable static limit t
-    → are_rps (given_of others (fitting (room_beside other others) t).rps) ≡ are_rps others
-accepted_beside static others limit other t sound =
-    accepted others other (fitting (room_beside other others) t)
+pub accepted_beside : (choice : Choice) (static others : List RpRange) (limit other : ℕ) (t : Table) → IsSoundTable static limit t
+    → are_rps (ranges_by choice others (fitting (room_beside other others) t).rps) ≡ are_rps others
+accepted_beside choice static others limit other t sound =
+    accepted_by choice others other (fitting (room_beside other others) t)
     (fitting_sound static others limit (room_beside other others) other t sound refl)

@@ -1,9 +1,9 @@
 -- The router behind the front is that of the specification, fed by what the front gives it.
-use Rattle.std.{proofs.{Common.{◌≡◌, ℕ, zero, suc, Bool, true, false, cond, not, nat_le, nat_lt, ◌&&◌, ◌||◌, ◌==◌, List, [], ◌∷◌, ◌++◌, filter, length, map, take, Option, Some, None, Result, Ok, Err, refl, sym, ap, subst, ◌∙◌, arith, append-nil}}, specs.{List.AllByRecursion, Prelude.{if◌then◌else◌, unwrap_or}}}
+use Rattle.std.{proofs.{Common.{◌≡◌, ℕ, zero, suc, Bool, true, false, List, [], ◌∷◌, ◌++◌, length, take, Option, Some, None, Result, Ok, Err, refl, sym, ap, ◌∙◌}}, specs.{Prelude.{if◌then◌else◌}}}
 use Rattle.pim_ip.{specs.{Ipv4.{Packet, ipv4_reading}, declared.refusal.Refusal.Refusal}}
-use Rattle.pim_types.{specs.declared.{config.RpRange.RpRange, event.{Event.Event, EventKind.EventKind}, outcome.{Emission.Emission, Outcome.Outcome}}}
+use Rattle.pim_types.{specs.declared.{config.RpRange.RpRange, event.{Event.Event, EventKind.EventKind}, outcome.{Outcome.Outcome}}}
 use Rattle.pim_model.{specs.{State.State, Step.{Answered, outcome_of, ran, run, state_after, step}}}
-use Rattle.pim_bsr.{specs.{Hearing.{Around, around_of, heard_frame, heard_packet, heard_reading, is_bootstrap}, Joined.{FrontedRouter, Told, event, event_given, events_given, first_end, frame_given, frame_joined, is_done, is_due, is_other_type, is_refused_moment, joined, joined_step, joined_with, kind_given, kind_joined, outcomes_in, passed, ran_with, ranges_joined, rps_if, rps_told, time_given, time_joined}, Laws.{JoinedIsRun, WithoutMessageNothingChanges, WithoutSettingNothingChanges, brings_bootstrap, is_bootstrap_read}, Table.{Known, at_time, configured, given, given_of, room_beside, runs, same_ranges}, declared.learned.Learned.Learned}, proofs.Ranges.same_itself}
+use Rattle.pim_bsr.{specs.{Hearing.{Around, around_of, heard_frame, heard_packet, heard_reading}, Joined.{FrontedRouter, Told, candidates_told, event, event_given, events_given, frame_given, frame_joined, is_done, is_other_type, is_refused_moment, joined, joined_step, kind_given, kind_joined, loses_by, outcomes_in, passed, ran_with, ranges_given, ranges_joined, rps_told, time_given, time_joined}, Laws.{JoinedIsRun, WithoutMessageNothingChanges, WithoutSettingNothingChanges, brings_bootstrap, is_bootstrap_read}, Table.{Known, at_time, configured, given, room_beside, same_candidates}, declared.{choice.Choice.Choice, learned.Learned.Learned}}, proofs.Ranges.{alone, same_unmoved}}
 
 -- ---- events one after others
 
@@ -37,10 +37,29 @@ frame_runs k s e i bytes = go (is_other_type (step s e).answer)
     go true = record { outcomes = refl; state = refl }
     go false = record { outcomes = refl; state = refl }
 
+-- what is known beside other configured ranges, and the event by which the router is given them
+abbrev pub beside : Known → List RpRange → Known
+beside k static = configured k.limit static k
+
+abbrev pub ranges_event : Known → Event → List RpRange → Event
+ranges_event k e static = event e.draw (EventKind.Rps (given (beside k static)))
+
+-- other configured ranges, by whether the router took them
+abbrev pub ranges_if : Bool → Known → State → Event → List RpRange → Told × FrontedRouter
+ranges_if b k s e static =
+    let a : Answered = step s (ranges_event k e static) in
+    let r : List Outcome × State = ran a.state (candidates_told e.draw k (beside k static)) in
+    if b then ran_with [] (Some (beside k static)) (outcome_of a ∷ r.0, r.1) else ran_with [] (Some k) (outcome_of a ∷ [], a.state)
+
 ranges_run : (k : Known) (s : State) (e : Event) (static : List RpRange)
-    → Runs (ranges_joined k s e static) s (event e.draw (EventKind.Rps (given (configured k.limit static k))) ∷ [])
-unfolding ranges_joined ran
-ranges_run k s e static = record { outcomes = refl; state = refl }
+    → Runs (ranges_joined k s e static) s (ranges_given k s e static)
+unfolding ranges_joined ranges_given ran
+ranges_run k s e static = go (is_done (step s (ranges_event k e static)).answer)
+  where
+    go : (b : Bool) → Runs (ranges_if b k s e static) s
+        (ranges_event k e static ∷ (if b then candidates_told e.draw k (beside k static) else []))
+    go true = record { outcomes = refl; state = refl }
+    go false = record { outcomes = refl; state = refl }
 
 time_runs : (k : Known) (s : State) (e : Event) (moment : ℕ) → Runs (time_joined k s e moment) s
     (if is_refused_moment s moment then e ∷ [] else time_given e.draw (length k.table.rps) k moment)
@@ -62,6 +81,7 @@ kind_runs k s e (EventKind.Unicast bytes) = passed_runs (Some k) s e
 kind_runs k s e (EventKind.Up i) = passed_runs (Some k) s e
 kind_runs k s e (EventKind.Down i) = passed_runs (Some k) s e
 kind_runs k s e (EventKind.Routes routes) = passed_runs (Some k) s e
+kind_runs k s e (EventKind.RpCandidates candidates) = passed_runs (Some k) s e
 
 pub step_runs : (known : Option Known) (s : State) (e : Event)
     → Runs (joined_step (record { known = known; state = s }) e) s (event_given (record { known = known; state = s }) e)
@@ -94,7 +114,7 @@ without_setting s (e ∷ es) = ap (λ (os : List Outcome). outcome_of (step s e)
 -- ---- without a message
 
 none_told : (draw : ℕ) (k : Known) → rps_told draw k k ≡ []
-none_told draw k = rw (same_itself (given k)) refl
+none_told draw k = rw (same_unmoved k.choice k.static k.table.rps) refl
 
 -- a front that knows no RPs, and gives the router the event alone
 record Alone (k : Known) (told : Told × FrontedRouter) (s : State) (e : Event) : Type 0 where
@@ -151,36 +171,48 @@ none_configured : (k : Known) (static : List RpRange) → k.table.rps ≡ [] →
 unfolding configured
 none_configured k static none = taken_none (room_beside k.limit static) k.table.rps none
 
-static_alone : (static : List RpRange) (rps : List Learned) → rps ≡ [] → given_of static rps ≡ static
-unfolding given_of
-static_alone static rps e = rw e (append-nil static)
-
-static_is : (k : Known) (static : List RpRange) → (configured k.limit static k).static ≡ static
-unfolding configured
-static_is k static = refl
-
 given_is : (k : Known) (static : List RpRange) → k.table.rps ≡ [] → given (configured k.limit static k) ≡ static
-given_is k static none =
-    ap (λ (rs : List RpRange). given_of rs (configured k.limit static k).table.rps) (static_is k static)
-    ∙ static_alone static (configured k.limit static k).table.rps (none_configured k static none)
+unfolding configured
+given_is k static none = (alone k.choice static (take (room_beside k.limit static) k.table.rps) (none_configured k static none)).0
+
+-- no candidates are lost
+nothing_lost : (choice : Choice) (before after : List Learned) → before ≡ [] → after ≡ [] → loses_by choice before after ≡ false
+unfolding same_candidates
+nothing_lost Choice.Range before after e f = refl
+nothing_lost Choice.Group before after e f = rw (e, f) refl
+
+none_lost : (draw : ℕ) (k : Known) (static : List RpRange) → k.table.rps ≡ [] → candidates_told draw k (configured k.limit static k) ≡ []
+none_lost draw k static none =
+    rw (nothing_lost (configured k.limit static k).choice k.table.rps (configured k.limit static k).table.rps none (none_configured k static none)) refl
 
 ranges_alone : (k : Known) (s : State) (e : Event) (static : List RpRange) → k.table.rps ≡ [] → e.kind ≡ EventKind.Rps static
     → Alone k (ranges_joined k s e static) s e
-unfolding ranges_joined
-ranges_alone k s e static none is = record {
-  outcomes = ap (λ (x : Event). outcome_of (step s x) ∷ []) as_it_came;
-  state = ap (λ (x : Event). (step s x).state) as_it_came;
-  left = if is_done (step s (event e.draw (EventKind.Rps (given (configured k.limit static k))))).answer then configured k.limit static k else k;
-  known = refl;
-  none = go (is_done (step s (event e.draw (EventKind.Rps (given (configured k.limit static k))))).answer);
-}
+unfolding ranges_joined ran
+ranges_alone k s e static none is = go (is_done (step s (ranges_event k e static)).answer)
   where
-    as_it_came : event e.draw (EventKind.Rps (given (configured k.limit static k))) ≡ e
+    as_it_came : ranges_event k e static ≡ e
     as_it_came = ap (λ (rs : List RpRange). event e.draw (EventKind.Rps rs)) (given_is k static none) ∙ ap (event e.draw) (sym is)
 
-    go : (b : Bool) → (if b then configured k.limit static k else k).table.rps ≡ []
-    go true = none_configured k static none
-    go false = none
+    nothing : candidates_told e.draw k (beside k static) ≡ []
+    nothing = none_lost e.draw k static none
+
+    go : (b : Bool) → Alone k (ranges_if b k s e static) s e
+    go true = record {
+      outcomes = ap (λ (es : List Event). let a : Answered = step s (ranges_event k e static) in outcome_of a ∷ (ran a.state es).0) nothing
+          ∙ ap (λ (x : Event). outcome_of (step s x) ∷ []) as_it_came;
+      state = ap (λ (es : List Event). (ran (step s (ranges_event k e static)).state es).1) nothing
+          ∙ ap (λ (x : Event). (step s x).state) as_it_came;
+      left = beside k static;
+      known = refl;
+      none = none_configured k static none;
+    }
+    go false = record {
+      outcomes = ap (λ (x : Event). outcome_of (step s x) ∷ []) as_it_came;
+      state = ap (λ (x : Event). (step s x).state) as_it_came;
+      left = k;
+      known = refl;
+      none = none;
+    }
 
 at_once : (k : Known) (e : Event) (moment n : ℕ) → n ≡ 0 → e.kind ≡ EventKind.Advance moment → time_given e.draw n k moment ≡ e ∷ []
 unfolding time_given
@@ -227,6 +259,7 @@ kind_alone k s e (EventKind.Unicast bytes) is none other = passed_alone k s e no
 kind_alone k s e (EventKind.Up i) is none other = passed_alone k s e none
 kind_alone k s e (EventKind.Down i) is none other = passed_alone k s e none
 kind_alone k s e (EventKind.Routes routes) is none other = passed_alone k s e none
+kind_alone k s e (EventKind.RpCandidates candidates) is none other = passed_alone k s e none
 
 pub without_message : WithoutMessageNothingChanges
 unfolding joined joined_step outcomes_in run ran

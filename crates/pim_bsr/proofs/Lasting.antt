@@ -1,10 +1,10 @@
 -- How long RPs last.
 use Rattle.std.{proofs.{Common.{◌≡◌, ℕ, ◌<◌, ◌≤◌, Bool, true, false, not, nat_le, nat_lt, ◌&&◌, ◌||◌, List, [], ◌∷◌, ◌++◌, filter, map, Option, Some, None, refl, sym, ap, ◌∙◌, arith}, lemmas.Bool.Decides.nat_tests}, specs.{List.{list_all, list_any}, Prelude.if◌then◌else◌}}
 use Rattle.pim_ip.{specs.declared.addr.Prefix.Prefix}
-use Rattle.pim_types.{specs.declared.config.RpRange.RpRange}
+use Rattle.pim_types.{specs.declared.config.{RpCandidate.RpCandidate, RpRange.RpRange}}
 use Rattle.pim_model.{specs.Limits.same_prefix}
 use Rattle.pim_bootstrap.{specs.Bootstraps.Bootstrap}
-use Rattle.pim_bsr.{specs.{Choice.{is_beaten_by, is_chosen}, Hearing.{Around, after_message, heard, heard_if, why_not}, Laws.{AllLeave, Happening, LastsItsTime, Leaves, TimeInSteps, after, all_after, have_mask, is_named, is_range_at, is_taken}, Table.{Known, at_time, configured, elected_at, given_of, has_prefix, is_configured, is_given, range_of, room_beside, runs, waits}, declared.{heard.Why.Why, learned.{Elected.Elected, Learned.Learned, Part.Part}}}, proofs.{Lists.{all_first, all_left, and_first, and_second, filter_both, in_turn, none_left, or_first, or_second}, Others.same_ranges_stay}}
+use Rattle.pim_bsr.{specs.{Choice.{is_beaten_by, is_chosen}, Hearing.{Around, after_message, heard, heard_if, why_not}, Laws.{AllLeave, Happening, LastsItsTime, Leaves, TimeInSteps, after, all_after, have_mask, is_candidate_at, is_named, is_range_at, is_taken}, Table.{Known, at_time, candidate_of, candidates_by, configured, elected_at, given_of, has_prefix, is_configured, is_given, range_of, ranges_by, room_beside, runs, waits}, declared.{choice.Choice.Choice, heard.Why.Why, learned.{Elected.Elected, Learned.Learned, Part.Part}}}, proofs.{Choosing.heard_choice, Lists.{all_first, all_left, and_first, and_second, filter_both, in_turn, none_left, or_first, or_second}, Others.same_ranges_stay}}
 
 -- ---- time in steps
 
@@ -131,6 +131,7 @@ module _ (p : Prefix) (moment : ℕ) where
   record Stays (before later : Known) : Type 0 where
     rps : filter (has_prefix p) later.table.rps ≡ filter (has_prefix p) before.table.rps
     free : list_any (is_range_at p) later.static ≡ false
+    choice : later.choice ≡ before.choice
 
   static_stays : (s : Around) (k : Known) (i src : ℕ) (b : List ℕ) (m : Bootstrap) → list_any (is_range_at p) k.static ≡ false
       → list_any (is_range_at p) (heard s k i src b m).known.static ≡ false
@@ -169,30 +170,62 @@ module _ (p : Prefix) (moment : ℕ) where
   one_leaves k (Happening.Message s i src b m) free ends leaves = record {
     rps = unnamed s k i src b m (is_taken (heard s k i src b m).answer) refl leaves;
     free = static_stays s k i src b m free;
+    choice = heard_choice s k i src b m;
   }
   one_leaves k (Happening.Time now) free ends leaves = record {
     rps = in_turn (has_prefix p) (runs now) k.table.rps
         ∙ all_left (runs now) (filter (has_prefix p) k.table.rps) (all_run now leaves (filter (has_prefix p) k.table.rps) ends);
     free = free;
+    choice = refl;
   }
   one_leaves k (Happening.Ranges limit static) free ends leaves = record {
     rps = ap (filter (has_prefix p)) (all_first (room_beside limit static) k.table.rps leaves.1);
     free = leaves.0;
+    choice = refl;
   }
 
   all_leave : (hs : List Happening) (k : Known) → list_any (is_range_at p) k.static ≡ false → last k.table.rps ≡ true
       → AllLeave p moment k hs → Stays k (all_after k hs)
   unfolding all_after AllLeave
-  all_leave [] k free ends leave = record { rps = refl; free = free }
+  all_leave [] k free ends leave = record { rps = refl; free = free; choice = refl }
   all_leave (h ∷ hs) k free ends leave =
       let one : Stays k (after k h) = one_leaves k h free ends leave.0 in
       let kept : last (after k h).table.rps ≡ true = ap (list_all (λ (l : Learned). nat_le moment l.end)) one.rps ∙ ends in
       let more : Stays (after k h) (all_after (after k h) hs) = all_leave hs (after k h) one.free kept leave.1 in
-      record { rps = more.rps ∙ one.rps; free = more.free }
+      record { rps = more.rps ∙ one.rps; free = more.free; choice = more.choice ∙ one.choice }
+
+-- what is given of a range stays where its RPs do, and what an RP is chosen for
+ranges_stay : (choice : Choice) (p : Prefix) (static others : List RpRange) (rps ls : List Learned)
+    → list_any (is_range_at p) static ≡ false → list_any (is_range_at p) others ≡ false
+    → filter (has_prefix p) rps ≡ filter (has_prefix p) ls
+    → filter (is_range_at p) (ranges_by choice static rps) ≡ filter (is_range_at p) (ranges_by choice others ls)
+ranges_stay Choice.Range p static others rps ls e f same =
+    given_at p static rps e ∙ ap (λ (ls : List Learned). map range_of (filter (is_chosen ls) ls)) same ∙ sym (given_at p others ls f)
+ranges_stay Choice.Group p static others rps ls e f same =
+    none_left (is_range_at p) static e ∙ sym (none_left (is_range_at p) others f)
+
+offered_at : (p : Prefix) (ls : List Learned)
+    → filter (is_candidate_at p) (map candidate_of ls) ≡ map candidate_of (filter (has_prefix p) ls)
+offered_at p [] = refl
+offered_at p (l ∷ ls) = go (has_prefix p l) refl (offered_at p ls)
+  where
+    go : (b : Bool) → has_prefix p l ≡ b
+        → filter (is_candidate_at p) (map candidate_of ls) ≡ map candidate_of (filter (has_prefix p) ls)
+        → filter (is_candidate_at p) (map candidate_of (l ∷ ls)) ≡ map candidate_of (filter (has_prefix p) (l ∷ ls))
+    go true is rest = rw is (ap (λ (cs : List RpCandidate). candidate_of l ∷ cs) rest)
+    go false is rest = rw is rest
+
+candidates_stay : (choice : Choice) (p : Prefix) (rps ls : List Learned) → filter (has_prefix p) rps ≡ filter (has_prefix p) ls
+    → filter (is_candidate_at p) (candidates_by choice rps) ≡ filter (is_candidate_at p) (candidates_by choice ls)
+candidates_stay Choice.Range p rps ls same = refl
+candidates_stay Choice.Group p rps ls same = offered_at p rps ∙ ap (map candidate_of) same ∙ sym (offered_at p ls)
 
 pub lasts_its_time : LastsItsTime
 lasts_its_time k p moment hs free ends leave =
-    let end : Stays p moment k (all_after k hs) = all_leave p moment hs k free ends leave in
-    given_at p (all_after k hs).static (all_after k hs).table.rps end.free
-    ∙ ap (λ (ls : List Learned). map range_of (filter (is_chosen ls) ls)) end.rps
-    ∙ sym (given_at p k.static k.table.rps free)
+    let last : Known = all_after k hs in
+    let end : Stays p moment k last = all_leave p moment hs k free ends leave in (
+      ap (λ (choice : Choice). filter (is_range_at p) (ranges_by choice last.static last.table.rps)) end.choice
+          ∙ ranges_stay k.choice p last.static k.static last.table.rps k.table.rps end.free free end.rps,
+      ap (λ (choice : Choice). filter (is_candidate_at p) (candidates_by choice last.table.rps)) end.choice
+          ∙ candidates_stay k.choice p last.table.rps k.table.rps end.rps,
+    )

@@ -1,5 +1,10 @@
 pub mod Apart
+mod Alone
+mod Choosing
 mod Counts
+mod Offered
+mod Saving
+mod Values
 pub mod Accepted
 pub mod JoinedLaws
 mod Lasting

@@ -1,5 +1,5 @@
 -- Tests of lists.
-use Rattle.std.{proofs.{Common.{◌≡◌, ℕ, zero, suc, ◌+◌, ◌≤◌, Bool, true, false, not, ◌&&◌, ◌||◌, List, [], ◌∷◌, ◌++◌, filter, length, map, take, refl, ap, ◌∙◌, arith}}, specs.List.{list_all, list_any}}
+use Rattle.std.{proofs.{Common.{◌≡◌, ℕ, zero, suc, ◌≤◌, Bool, true, false, not, ◌&&◌, ◌||◌, List, [], ◌∷◌, ◌++◌, filter, length, map, take, refl, ap, arith}}, specs.List.{list_all, list_any}}
 
 pub and_first : (a b : Bool) → (a && b) ≡ true → a ≡ true
 and_first true b e = refl
@@ -126,6 +126,12 @@ length-map_of f [] = refl
 length-map_of f (x ∷ xs) = omega (arith, length-map_of f xs)
 
 -- the first members
+pub first_pass : {X : Type 0} (test : X → Bool) (n : ℕ) (xs : List X) → list_all test xs ≡ true → list_all test (take n xs) ≡ true
+first_pass test zero xs e = refl
+first_pass test (suc n) [] e = refl
+first_pass test (suc n) (x ∷ xs) e =
+    and_both (test x) _ (and_first (test x) _ e) (first_pass test n xs (and_second (test x) _ e))
+
 pub first_few : {X : Type 0} (n : ℕ) (xs : List X) → length (take n xs) ≤ n
 first_few zero xs = omega arith
 first_few (suc n) [] = omega arith

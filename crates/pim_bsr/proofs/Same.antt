@@ -1,10 +1,10 @@
 -- Routers that took the same messages are given the same RPs.
 use Rattle.std.{proofs.{Common.{◌≡◌, ℕ, Bool, true, false, not, nat_le, ◌&&◌, ◌||◌, ◌==◌, List, [], ◌∷◌, ◌++◌, filter, fold, length, map, refl, sym, ap, ◌∙◌}}, specs.{List.list_any, Prelude.if◌then◌else◌}}
 use Rattle.pim_ip.{specs.declared.addr.Prefix.Prefix}
-use Rattle.pim_types.{specs.declared.config.RpRange.RpRange}
+use Rattle.pim_types.{specs.declared.config.{RpCandidate.RpCandidate, RpRange.RpRange}}
 use Rattle.pim_model.{specs.Limits.same_prefix}
 use Rattle.pim_bootstrap.{specs.{declared.bootstrap.CandidateRp.CandidateRp, Bootstraps.{Bootstrap, BootstrapRange}}}
-use Rattle.pim_bsr.{specs.{Choice.{is_beaten_by, is_better, is_chosen, range_value}, Laws.{SameEverywhere, Twice, endless, endless_part, table_after, untimed}, Table.{MessageId, Table, completed, emptied, given_of, has_holdtime, has_prefix, is_configured, is_given, is_part_of, is_tagged, learned_of, masks_after, message_id, part_of, parts_after, range_of, range_prefix, waiting, with_mask, with_message, with_part, with_range, with_ranges, without, without_parts}, declared.learned.{Learned.Learned, Part.Part}}, proofs.Lists.{length-map_of, map_both}}
+use Rattle.pim_bsr.{specs.{Choice.{is_beaten_by, is_better, is_chosen, range_value}, Laws.{SameEverywhere, Twice, endless, endless_part, table_after, untimed}, Table.{MessageId, Table, candidate_of, completed, emptied, given_of, has_holdtime, has_prefix, is_configured, is_given, is_part_of, is_tagged, learned_of, masks_after, message_id, part_of, parts_after, range_of, range_prefix, waiting, with_mask, with_message, with_part, with_range, with_ranges, without, without_parts}, declared.learned.{Learned.Learned, Part.Part}}, proofs.Lists.{length-map_of, map_both}}
 
 -- ---- lists that are alike but for something
 
@@ -177,6 +177,14 @@ given_of_less static all (l ∷ ls) = go (is_given static all l) refl (given_of_
     go true is later = rw (given_less static all l ∙ is, is) (ap (λ (rs : List RpRange). range_of l ∷ rs) later)
     go false is later = rw (given_less static all l ∙ is, is) later
 
+-- candidates have no ends
+offered_less : (ls : List Learned) → map candidate_of (map endless ls) ≡ map candidate_of ls
+offered_less [] = refl
+offered_less (l ∷ ls) = ap (λ (cs : List RpCandidate). candidate_of l ∷ cs) (offered_less ls)
+
+offered_alike : (xs ys : List Learned) → map endless xs ≡ map endless ys → map candidate_of xs ≡ map candidate_of ys
+offered_alike xs ys e = sym (offered_less xs) ∙ ap (map candidate_of) e ∙ offered_less ys
+
 given_alike : (static : List RpRange) (xs ys : List Learned) → map endless xs ≡ map endless ys → given_of static xs ≡ given_of static ys
 unfolding given_of
 given_alike static xs ys e =
@@ -187,4 +195,6 @@ pub same_everywhere : SameEverywhere
 unfolding untimed
 same_everywhere static t u ms e =
     let start : Alike t u = record { rps = ap (λ (x : Table). x.rps) e; parts = ap (λ (x : Table). x.parts) e } in
-    given_alike static _ _ (messages_alike ms t u start).rps
+    let last : map endless (table_after (λ x. x.first) t ms).rps ≡ map endless (table_after (λ x. x.second) u ms).rps =
+    (messages_alike ms t u start).rps in
+    (given_alike static _ _ last, offered_alike _ _ last)

@@ -4,7 +4,7 @@ use Rattle.pim_ip.{specs.{Ipv4.{Packet, ipv4_reading, is_multicast, is_unicast},
 use Rattle.pim_types.{specs.declared.config.RpRange.RpRange}
 use Rattle.pim_model.{specs.{Limits.{is_rp_range, same_prefix}}}
 use Rattle.pim_bootstrap.{specs.{declared.bootstrap.CandidateRp.CandidateRp, Bootstraps.{AreTested, Bootstrap, BootstrapRange, IsHost, IsTested, bootstrap_reading}}, proofs.Tested.read_is_tested}
-use Rattle.pim_bsr.{specs.{Choice.masked, Hearing.{Around, after_message, has_room, heard, heard_frame, heard_if, heard_packet, heard_read, heard_reading, is_bootstrap, room_or, unheard, why_not, why_sender}, Sound.{AreSound, IsSound, IsSoundTable, SoundConfigured, SoundInTime, SoundStays, SoundWhateverComes, are_apart}, Table.{Known, MessageId, Table, at_time, completed, configured, emptied, fitting, has_holdtime, has_prefix, is_part_of, is_tagged, kept_count, learned_of, masks_after, message_id, part_of, part_range, parts_after, range_of, range_prefix, room_beside, runs, same_range, waiting, waits, with_mask, with_message, with_part, with_range, with_ranges, without, without_parts}, declared.{heard.{Heard.Heard, Why.Why}, learned.{Learned.Learned, Part.Part}}}, proofs.Lists.{and_both, and_fails, and_first, and_second, both_pass, fewer, first_few, map_both, neither, not_false, not_true, or_first, or_second, passes_other, some_pass}}
+use Rattle.pim_bsr.{specs.{Choice.masked, Hearing.{Around, after_message, has_room, heard, heard_frame, heard_if, heard_packet, heard_read, heard_reading, is_bootstrap, room_or, unheard, why_not, why_sender}, Sound.{AreSound, IsSound, IsSoundTable, SoundConfigured, SoundInTime, SoundStays, SoundWhateverComes, are_apart, has_mask}, Table.{Known, MessageId, Table, at_time, completed, configured, emptied, fitting, has_holdtime, has_prefix, is_part_of, is_tagged, kept_count, learned_of, masks_after, message_id, part_of, part_range, parts_after, range_of, range_prefix, room_beside, runs, same_range, waiting, waits, with_mask, with_message, with_part, with_range, with_ranges, without, without_parts}, declared.{heard.{Heard.Heard, Why.Why}, learned.{Learned.Learned, Part.Part}}}, proofs.{Lists.{and_both, and_fails, and_first, and_second, both_pass, fewer, first_few, first_pass, map_both, neither, not_false, not_true, or_first, or_second, passes_other, some_pass}, Values.{Hold, brings, masks_hold, ranges_hold}}}
 
 -- ---- some members of a sound list
 
@@ -364,6 +364,29 @@ masks_sound : (hash : ℕ) (ranges : List BootstrapRange) (t : Table) → AreBot
 masks_sound hash [] t all = all
 masks_sound hash (r ∷ ranges) t all = record { rps = subst AreSound (sym (names_masked hash t.rps)) all.rps; parts = all.parts }
 
+-- ---- hash masks
+
+any_passes : {X : Type 0} (xs : List X) → list_all (λ x. true) xs ≡ true
+any_passes [] = refl
+any_passes (x ∷ xs) = any_passes xs
+
+any_brought : (now : ℕ) (id : MessageId) (ranges : List BootstrapRange) → list_all (brings (λ q. true) now id) ranges ≡ true
+any_brought now id [] = refl
+any_brought now id (r ∷ ranges) =
+    and_both (brings (λ q. true) now id r) _ (any_passes (map (part_of now id (range_prefix r)) r.rps)) (any_brought now id ranges)
+
+masks_keep : (now : ℕ) (m : Bootstrap) (t : Table) → m.hash_length ≤ 32 → list_all has_mask t.rps ≡ true
+    → list_all has_mask (with_message now t m).rps ≡ true
+unfolding with_message
+masks_keep now m t low e =
+    let id : MessageId = message_id m.bsr m.tag in
+    let short : nat_le m.hash_length 32 ≡ true = grind (arith, nat_tests, low) in
+    let before : Hold has_mask (λ q. true) t = record { rps = e; parts = any_passes t.parts } in
+    let masked : Hold has_mask (λ q. true) (masks_after m.hash_length m.ranges t) =
+    masks_hold has_mask (λ q. true) now id m.hash_length (λ q f. short) (λ l f. short) m.ranges t before in
+    (ranges_hold has_mask (λ q. true) now id m.hash_length (λ q f. short) (λ l f. short) m.ranges
+    (masks_after m.hash_length m.ranges t) (any_brought now id m.ranges) masked).rps
+
 -- the table after a message that was read, for whose RPs there is room
 pub learned_sound : (now : ℕ) (static : List RpRange) (limit : ℕ) (t : Table) (b : List ℕ) (m : Bootstrap)
     → bootstrap_reading b ≡ Ok m → IsSoundTable static limit t → kept_count (with_message now t m) ≤ room_beside limit static
@@ -375,7 +398,7 @@ learned_sound now static limit t b m read all room =
     masks_sound m.hash_length m.ranges t (record { rps = all.rps; parts = all.parts }) in
     let both : AreBoth (with_message now t m) =
     ranges_keep now (message_id m.bsr m.tag) m.hash_length m.ranges (masks_after m.hash_length m.ranges t) tested.ranges masked in
-    record { rps = both.rps; parts = both.parts; kept = room }
+    record { rps = both.rps; parts = both.parts; masks = masks_keep now m t tested.mask all.masks; kept = room }
 
 -- ---- messages
 
@@ -426,6 +449,7 @@ unfolding kept_count
 time_sound now static limit t all = record {
   rps = some_sound range_of (runs now) t.rps all.rps;
   parts = some_sound part_range (waits now) t.parts all.parts;
+  masks = some_pass (runs now) has_mask t.rps all.masks;
   kept = omega (arith, fewer (runs now) t.rps, fewer (waits now) t.parts, all.kept);
 }
 
@@ -439,6 +463,7 @@ unfolding kept_count
 fitting_sound static others limit room other t all is = record {
   rps = first_sound range_of room t.rps all.rps;
   parts = first_sound part_range (room - length (take room t.rps)) t.parts all.parts;
+  masks = first_pass has_mask room t.rps all.masks;
   kept = omega (arith, first_few room t.rps, first_few (room - length (take room t.rps)) t.parts, is);
 }
 
@@ -452,5 +477,6 @@ unfolding are_apart kept_count
 nothing_sound static limit = record {
   rps = record { each = refl; apart = refl };
   parts = record { each = refl; apart = refl };
+  masks = refl;
   kept = omega arith;
 }

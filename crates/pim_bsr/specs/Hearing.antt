@@ -1,12 +1,12 @@
 -- A packet that came on a link, beside what the front asks of the router (RFC 5059, section 3.1.3): whether it is a
 -- Bootstrap that counts, what is known after it, and what is sent on.
-use Rattle.std.{specs.{Cmp.Lexicographic.pointwise, Prelude.{ℕ, Bool, true, false, ◌+◌, ◌==◌, ◌&&◌, nat_le, nat_lt, not, if◌then◌else◌, List, [], ◌∷◌, filter, length, map, Option, Some, None, Result, Ok, Err}}}
+use Rattle.std.{specs.{Cmp.Lexicographic.pointwise, Option.option_map_or, Prelude.{ℕ, Bool, true, false, ◌+◌, ◌==◌, ◌&&◌, nat_le, nat_lt, not, if◌then◌else◌, List, [], ◌∷◌, filter, length, map, option_and_then, Option, Some, None, Result, Ok, Err}}}
 use Rattle.pim_ip.{specs.{Addr.addr, Ipv4.{Packet, all_pim_routers, ipv4_reading, pim_packet_text, protocol_pim}, declared.refusal.Refusal.Refusal}}
 use Rattle.pim_types.{specs.declared.{outcome.Emission.Emission, path.Hop.Hop}}
 use Rattle.pim_wire.{specs.Encoded.pim_type_of}
 use Rattle.pim_model.{specs.{Neighbours.{is_neighbour, nbr, neighbour_count}, State.{State, iface_count, is_own, my_address}, Tables.below, Unicast.route, Writing.on_link}}
 use Rattle.pim_bootstrap.{specs.Bootstraps.{Bootstrap, BootstrapRange, bootstrap_reading}}
-use Rattle.pim_bsr.{specs.{Table.{Known, bs_timeout, given, kept_count, may_elect, room, same_ranges, with_message}, declared.heard.{Heard.Heard, Why.Why}}}
+use Rattle.pim_bsr.{specs.{Table.{Known, bs_timeout, kept_count, may_elect, moves, room, with_message}, declared.heard.{Heard.Heard, Why.Why}}}
 
 -- What the front asks of the router: the present timestamp in ms; whether an address is the router's; whether there is a
 -- neighbour with an address on an interface; RPF_neighbor of an address; how many interfaces are configured; whether there
@@ -34,6 +34,18 @@ around_of s = record {
   count = iface_count s;
   linked = λ i. not (neighbour_count s i == 0);
   address = my_address s;
+}
+
+-- what a router answers that may have failed, by its state
+abbrev pub around_if : {R : Type 0} → (R → State) → Option R → Around
+around_if f o = record {
+  present = option_map_or (λ r. (f r).present) o 0;
+  own = λ a. option_map_or (λ r. is_own (f r) a) o false;
+  neighbour = λ i a. option_map_or (λ r. is_neighbour (f r) i a) o false;
+  hop = λ a. option_and_then (λ r. rpf_hop (f r) a) o;
+  count = option_map_or (λ r. iface_count (f r)) o 0;
+  linked = λ i. option_map_or (λ r. not (neighbour_count (f r) i == 0)) o false;
+  address = λ i. option_map_or (λ r. my_address (f r) i) o 0;
 }
 
 -- ---- whether a message counts
@@ -130,12 +142,12 @@ pub record Hearing : Type 0 where
 abbrev pub unheard : Known → Heard → Hearing
 unheard k answer = record { answer = answer; known = k; sent = [] }
 
--- a message that counts: the answer says whether the router is to be given other ranges
+-- a message that counts: the answer says whether the router is to be given other RPs
 abbrev pub taken : Around → Known → ℕ → List ℕ → Bootstrap → Hearing
 taken s k i bytes m =
     let after : Known = after_message s.present k bytes m in
     record {
-      answer = Heard.Taken (not (same_ranges (given k) (given after)));
+      answer = Heard.Taken (moves k after);
       known = after;
       sent = map (passed_on s bytes) (sent_on s k i bytes m);
     }
@@ -147,6 +159,13 @@ takes_memory (Heard.Refused refusal) = false
 takes_memory (Heard.Ignored Why.NoRoom) = true
 takes_memory (Heard.Ignored _) = false
 takes_memory (Heard.Taken moved) = true
+
+-- the router is to be given other RPs
+abbrev pub is_moved : Heard → Bool
+is_moved (Heard.Taken moved) = moved
+is_moved Heard.Other = false
+is_moved (Heard.Refused refusal) = false
+is_moved (Heard.Ignored why) = false
 
 -- a message that was read, by why it doesn't count
 abbrev pub heard_if : Around → Known → ℕ → List ℕ → Bootstrap → Option Why → Hearing

@@ -3,7 +3,7 @@ use Rattle.std.{specs.{Prelude.{ℕ, zero, suc, Bool, true, false, ◌||◌, min
 use Rattle.pim_ip.{specs.declared.refusal.Refusal.Refusal}
 use Rattle.pim_types.{specs.declared.{config.RpRange.RpRange, event.{Event.Event, EventKind.EventKind}, outcome.{Emission.Emission, Ignored.Ignored, Outcome.Outcome, Verdict.Verdict}}}
 use Rattle.pim_model.{specs.{Judging.last_moment, State.State, Step.{Answered, outcome_of, ran, step}}}
-use Rattle.pim_bsr.{specs.{Hearing.{Hearing, around_of, heard_frame}, Table.{Known, at_time, configured, given, same_ranges}, declared.learned.Learned.Learned}}
+use Rattle.pim_bsr.{specs.{Hearing.{Hearing, around_of, heard_frame}, Table.{Known, at_time, candidates, configured, given, moves, same_candidates}, declared.{choice.Choice.Choice, learned.Learned.Learned}}}
 
 -- what is known, if the front is on, and the machine's state
 pub record FrontedRouter : Type 0 where
@@ -30,14 +30,35 @@ first_end ls = fold (λ (first : Option ℕ) (l : Learned). Some (earlier l.end 
 abbrev pub event : ℕ → EventKind → Event
 event draw kind = record { draw = draw; kind = kind }
 
--- the router is given other ranges where it is to have others than it was given
+-- what brings the router the RPs that are given
+abbrev pub rps_by : Choice → Known → EventKind
+rps_by Choice.Range k = EventKind.Rps (given k)
+rps_by Choice.Group k = EventKind.RpCandidates (candidates k)
+
+abbrev pub rps_event : Known → EventKind
+rps_event k = rps_by k.choice k
+
+-- the router is given them, where it is to be given others than before
 abbrev pub rps_if : Bool → ℕ → Known → List Event
-rps_if true draw k = event draw (EventKind.Rps (given k)) ∷ []
+rps_if true draw k = event draw (rps_event k) ∷ []
 rps_if false draw k = []
 
 -- what the router is given of what is known, after what it was given of what was
 abbrev pub rps_told : ℕ → Known → Known → List Event
-rps_told draw before after = rps_if (not (same_ranges (given before) (given after))) draw after
+rps_told draw before after = rps_if (moves before after) draw after
+
+-- other candidates are left, of those that are given
+abbrev pub loses_by : Choice → List Learned → List Learned → Bool
+loses_by Choice.Range before after = false
+loses_by Choice.Group before after = not (same_candidates before after)
+
+-- other configured ranges leave no room for all candidates that the router was given
+abbrev pub loses : Known → Known → Bool
+loses before after = loses_by after.choice before.table.rps after.table.rps
+
+-- what the router is given once it has other configured ranges, with those that are learned beside them
+abbrev pub candidates_told : ℕ → Known → Known → List Event
+candidates_told draw before after = rps_if (loses before after) draw after
 
 -- an end that is there, and no later than a moment
 abbrev pub is_due : Option ℕ → ℕ → Bool
@@ -45,7 +66,7 @@ is_due None moment = false
 is_due (Some end) moment = nat_le end moment
 
 -- What the router is given as time passes to a moment: at each end of an RP in force, in their order, the time, and then
--- other ranges where they are others; there are at most so many ends.
+-- other RPs where they are others; there are at most so many ends.
 unfoldable pub time_given : ℕ → ℕ → Known → ℕ → List Event
 time_given draw zero k moment = event draw (EventKind.Advance moment) ∷ []
 time_given draw (suc ends) k moment =
@@ -80,7 +101,7 @@ abbrev pub passed : Option Known → State → Event → Told × FrontedRouter
 passed known s e = ran_with [] known (ran s (e ∷ []))
 
 -- A packet that came on a link goes to the router as it came. Where that ignores it for its type the front hears it, and
--- then the router is given other ranges where they are others.
+-- then the router is given other RPs where they are others.
 unfoldable pub frame_joined : Known → State → Event → ℕ → List ℕ → Told × FrontedRouter
 frame_joined k s e i bytes =
     let a : Answered = step s e in
@@ -89,12 +110,15 @@ frame_joined k s e i bytes =
     if is_other_type a.answer then ran_with h.sent (Some h.known) (outcome_of a ∷ r.0, r.1)
     else ran_with [] (Some k) (outcome_of a ∷ [], a.state)
 
--- Other configured ranges go to the router with those that are learned beside them. What it refuses isn't known.
+-- Other configured ranges go to the router with those that are learned beside them, and then other candidates where there
+-- are others. What it refuses isn't known.
 unfoldable pub ranges_joined : Known → State → Event → List RpRange → Told × FrontedRouter
 ranges_joined k s e static =
     let after : Known = configured k.limit static k in
     let a : Answered = step s (event e.draw (EventKind.Rps (given after))) in
-    ran_with [] (Some (if is_done a.answer then after else k)) (outcome_of a ∷ [], a.state)
+    let r : List Outcome × State = ran a.state (candidates_told e.draw k after) in
+    if is_done a.answer then ran_with [] (Some after) (outcome_of a ∷ r.0, r.1)
+    else ran_with [] (Some k) (outcome_of a ∷ [], a.state)
 
 -- Time passes in steps; a moment that the router refuses goes to it as it came.
 unfoldable pub time_joined : Known → State → Event → ℕ → Told × FrontedRouter
@@ -111,6 +135,7 @@ kind_joined k s e (EventKind.Unicast bytes) = passed (Some k) s e
 kind_joined k s e (EventKind.Up i) = passed (Some k) s e
 kind_joined k s e (EventKind.Down i) = passed (Some k) s e
 kind_joined k s e (EventKind.Routes routes) = passed (Some k) s e
+kind_joined k s e (EventKind.RpCandidates candidates) = passed (Some k) s e
 
 -- a front that is on, or none
 abbrev pub joined_with : Option Known → State → Event → Told × FrontedRouter
@@ -131,21 +156,29 @@ joined b (e ∷ es) =
 
 -- ---- what the router is given
 
--- for a packet: the packet, and the ranges after a Bootstrap
+-- for a packet: the packet, and the RPs after a Bootstrap
 unfoldable pub frame_given : Known → State → Event → ℕ → List ℕ → List Event
 frame_given k s e i bytes =
     e ∷ (if is_other_type (step s e).answer then rps_told e.draw k (heard_frame (around_of (step s e).state) k i bytes).known else [])
 
+-- for other configured ranges: the ranges, and the candidates for which there is room beside them
+unfoldable pub ranges_given : Known → State → Event → List RpRange → List Event
+ranges_given k s e static =
+    let after : Known = configured k.limit static k in
+    let ranges : Event = event e.draw (EventKind.Rps (given after)) in
+    ranges ∷ (if is_done (step s ranges).answer then candidates_told e.draw k after else [])
+
 -- for an event at a front that is on
 abbrev pub kind_given : Known → State → Event → EventKind → List Event
 kind_given k s e (EventKind.Frame i bytes) = frame_given k s e i.number bytes
-kind_given k s e (EventKind.Rps static) = event e.draw (EventKind.Rps (given (configured k.limit static k))) ∷ []
+kind_given k s e (EventKind.Rps static) = ranges_given k s e static
 kind_given k s e (EventKind.Advance moment) =
     if is_refused_moment s moment then e ∷ [] else time_given e.draw (length k.table.rps) k moment
 kind_given k s e (EventKind.Unicast bytes) = e ∷ []
 kind_given k s e (EventKind.Up i) = e ∷ []
 kind_given k s e (EventKind.Down i) = e ∷ []
 kind_given k s e (EventKind.Routes routes) = e ∷ []
+kind_given k s e (EventKind.RpCandidates candidates) = e ∷ []
 
 -- for an event
 abbrev pub given_with : Option Known → State → Event → List Event

@@ -1,16 +1,17 @@
 -- What a user expects of RPs that are learned, and what holds of a router behind the front.
 use Rattle.std.{specs.{List.{AllByRecursion, list_all, list_any}, Prelude.{◌≡◌, ℕ, ◌≤◌, ◌<◌, ◌&&◌, ◌||◌, ◌==◌, Bool, true, false, not, nat_le, nat_lt, if◌then◌else◌, List, [], ◌∷◌, filter, fold, length, map, Some, None, Result, Ok, Err}}}
 use Rattle.pim_ip.{specs.{declared.{addr.Prefix.Prefix, refusal.Refusal.Refusal}, Ipv4.{Packet, ipv4_reading}}}
-use Rattle.pim_types.{specs.declared.{config.RpRange.RpRange, event.{Event.Event, EventKind.EventKind}}}
-use Rattle.pim_model.{specs.{Limits.same_prefix, State.State, Step.{run, state_after}}}
-use Rattle.pim_bootstrap.{specs.{Bootstraps.{Bootstrap, BootstrapRange}}}
-use Rattle.pim_bsr.{specs.{Hearing.{Around, heard, is_bootstrap, is_from_rpf, is_repeated, sent_on}, Joined.{FrontedRouter, events_given, joined, outcomes_in}, Table.{Known, Table, at_time, configured, given, given_of, has_prefix, is_preferred, range_prefix, room_beside, with_mask, with_message}, declared.{heard.{Heard.Heard}, learned.{Elected.Elected, Learned.Learned, Part.Part}}}}
+use Rattle.pim_types.{specs.declared.{config.{RpCandidate.RpCandidate, RpRange.RpRange}, event.{Event.Event, EventKind.EventKind}}}
+use Rattle.pim_model.{specs.{Limits.{are_candidates, same_prefix}, State.State, Step.{run, state_after}}}
+use Rattle.pim_saved.{specs.Laws.AreBytes}
+use Rattle.pim_bootstrap.{specs.{Bootstraps.{Bootstrap, BootstrapRange, bootstrap_reading}}}
+use Rattle.pim_bsr.{specs.{Hearing.{Around, heard, is_bootstrap, is_from_rpf, is_repeated, sent_on}, Joined.{FrontedRouter, events_given, joined, outcomes_in}, Sound.{HavePriorities, IsSound}, Table.{Known, Table, at_time, candidate_of, candidates, configured, given, given_of, has_prefix, is_preferred, range_prefix, room_beside, with_mask, with_message}, declared.{choice.Choice.Choice, heard.{Heard.Heard}, learned.{Elected.Elected, Learned.Learned, Part.Part}}}}
 
 -- ---- the configured ranges
 
 -- before the first message the router has the configured ranges alone
 abbrev pub StaticFirst : Type 0
-StaticFirst = (k : Known) → k.table.rps ≡ [] → given k ≡ k.static
+StaticFirst = (k : Known) → k.table.rps ≡ [] → (given k ≡ k.static) × (candidates k ≡ [])
 
 -- the RP doesn't last beyond a timestamp
 abbrev pub ends_by : ℕ → Learned → Bool
@@ -18,7 +19,9 @@ ends_by now l = nat_le l.end now
 
 -- when the last holdtime is over the router has the configured ranges alone
 abbrev pub StaticAlone : Type 0
-StaticAlone = (k : Known) (now : ℕ) → list_all (ends_by now) k.table.rps ≡ true → given (at_time now k) ≡ k.static
+StaticAlone =
+    (k : Known) (now : ℕ) → list_all (ends_by now) k.table.rps ≡ true
+    → (given (at_time now k) ≡ k.static) × (candidates (at_time now k) ≡ [])
 
 -- ---- which messages count
 
@@ -90,9 +93,12 @@ after k (Ranges limit static) = configured limit static k
 unfoldable pub all_after : Known → List Happening → Known
 all_after k hs = fold after k hs
 
--- the range is of a prefix
+-- the range is of a prefix, and the candidate
 abbrev pub is_range_at : Prefix → RpRange → Bool
 is_range_at p r = same_prefix p r.prefix
+
+abbrev pub is_candidate_at : Prefix → RpCandidate → Bool
+is_candidate_at p c = same_prefix p c.prefix
 
 -- the RPs of a prefix have a hash mask of so many bits
 abbrev pub have_mask : Prefix → ℕ → List Learned → Bool
@@ -111,17 +117,33 @@ unfoldable pub AllLeave : Prefix → ℕ → Known → List Happening → Type 0
 AllLeave p moment k [] = Unit {0}
 AllLeave p moment k (h ∷ hs) = Leaves p moment k h × AllLeave p moment (after k h) hs
 
--- A range whose RPs all last to a moment has the same RP until then, whatever happens that leaves it.
+-- A range whose RPs all last to a moment has the same RP, and the same candidates, until then, whatever happens that leaves
+-- it.
 abbrev pub LastsItsTime : Type 0
 LastsItsTime =
     (k : Known) (p : Prefix) (moment : ℕ) (hs : List Happening) → list_any (is_range_at p) k.static ≡ false
     → list_all (λ (l : Learned). nat_le moment l.end) (filter (has_prefix p) k.table.rps) ≡ true
     → AllLeave p moment k hs
-    → filter (is_range_at p) (given (all_after k hs)) ≡ filter (is_range_at p) (given k)
+    → (filter (is_range_at p) (given (all_after k hs)) ≡ filter (is_range_at p) (given k))
+    × (filter (is_candidate_at p) (candidates (all_after k hs)) ≡ filter (is_candidate_at p) (candidates k))
 
 -- however time is cut into pieces, the same is known
 abbrev pub TimeInSteps : Type 0
 TimeInSteps = (k : Known) (a b : ℕ) → a ≤ b → at_time b (at_time a k) ≡ at_time b k
+
+-- ---- what the router takes
+
+-- a message that happens is what its bytes say
+abbrev pub IsRead : Happening → Type 0
+IsRead (Message s i src b m) = AreBytes b × (bootstrap_reading b ≡ Ok m)
+IsRead (Time now) = Unit {0}
+IsRead (Ranges limit static) = Unit {0}
+
+-- Whatever messages come, however time passes and whatever is configured, the router takes the candidates that it is given.
+abbrev pub CandidatesAreAccepted : Type 0
+CandidatesAreAccepted =
+    (k : Known) (hs : List Happening) → IsSound k → HavePriorities k.table → AllByRecursion IsRead hs
+    → are_candidates (candidates (all_after k hs)) ≡ true
 
 -- ---- routers that took the same messages
 
@@ -148,11 +170,12 @@ unfoldable pub untimed : Table → Table
 untimed t = record { rps = map endless t.rps; parts = map endless_part t.parts }
 
 -- Routers that have the same configured ranges, and took the same messages since they knew the same, are given the same
--- RPs, whenever the messages came to each, while nothing expires.
+-- RPs, for ranges or as candidates, whenever the messages came to each, while nothing expires.
 abbrev pub SameEverywhere : Type 0
 SameEverywhere =
     (static : List RpRange) (t u : Table) (ms : List Twice) → untimed t ≡ untimed u
-    → given_of static (table_after (λ x. x.first) t ms).rps ≡ given_of static (table_after (λ x. x.second) u ms).rps
+    → (given_of static (table_after (λ x. x.first) t ms).rps ≡ given_of static (table_after (λ x. x.second) u ms).rps)
+    × (map candidate_of (table_after (λ x. x.first) t ms).rps ≡ map candidate_of (table_after (λ x. x.second) u ms).rps)
 
 -- ---- the router behind the front
 
@@ -183,3 +206,28 @@ WithoutMessageNothingChanges =
     (s : State) (k : Known) (es : List Event) → k.table.rps ≡ []
     → AllByRecursion (λ (e : Event). brings_bootstrap e.kind ≡ false) es
     → outcomes_in (joined (record { known = Some k; state = s }) es).0 ≡ run s es
+
+-- an event brings candidates, or RP ranges
+abbrev pub brings_candidates : EventKind → Bool
+brings_candidates (EventKind.RpCandidates candidates) = true
+brings_candidates _ = false
+
+abbrev pub brings_ranges : EventKind → Bool
+brings_ranges (EventKind.Rps static) = true
+brings_ranges _ = false
+
+-- the events of some kinds
+abbrev pub events_of : (EventKind → Bool) → List Event → List Event
+events_of test es = filter (λ (e : Event). test e.kind) es
+
+-- Where an RP is chosen for a whole range, the router is given no candidates but those that come.
+abbrev pub RangesAlone : Type 0
+RangesAlone =
+    (s : State) (k : Known) (es : List Event) → k.choice ≡ Choice.Range
+    → events_of brings_candidates (events_given (record { known = Some k; state = s }) es) ≡ events_of brings_candidates es
+
+-- Where an RP is chosen for each group, the router is given the configured ranges as they come, and no others.
+abbrev pub CandidatesAlone : Type 0
+CandidatesAlone =
+    (s : State) (k : Known) (es : List Event) → k.choice ≡ Choice.Group
+    → events_of brings_ranges (events_given (record { known = Some k; state = s }) es) ≡ events_of brings_ranges es

@@ -5,7 +5,7 @@ use Rattle.pim_types.{specs.declared.config.RpRange.RpRange}
 use Rattle.pim_model.{specs.Limits.is_rp_range}
 use Rattle.pim_saved.{specs.{Reading.{◌>>=◌, Reader, address_at, byte_at, flag_at, half_at, in_turn, list_at, made, moment_at, option_at, prefix_at, range_at, undamaged, word_at}, declared.refusal.SavedRefusal.SavedRefusal}}
 use Rattle.pim_bootstrap.{specs.declared.bootstrap.CandidateRp.CandidateRp}
-use Rattle.pim_bsr.{specs.{Sound.are_apart, Table.{Known, Table, kept_count, part_range, range_of, room}, Text.{ConfiguredParts, LastParts, SaidParts, tag, version}, declared.{learned.{Elected.Elected, Learned.Learned, Part.Part}, refusal.ListenerRefusal.ListenerRefusal, saved.Election.Election}}}
+use Rattle.pim_bsr.{specs.{Sound.{are_apart, has_mask}, Table.{Known, Table, kept_count, part_range, range_of, room}, Text.{ConfiguredParts, LastParts, SaidParts, tag, version_of}, declared.{choice.Choice.Choice, learned.{Elected.Elected, Learned.Learned, Part.Part}, refusal.ListenerRefusal.ListenerRefusal, saved.Election.Election}}}
 
 -- ---- rows
 
@@ -74,10 +74,11 @@ last_at bytes = in_turn (list_at byte_at) moment_at bytes
 abbrev pub KnownParts : Type 0
 KnownParts = ConfiguredParts × (SaidParts × LastParts)
 
-abbrev pub known_of : KnownParts → Known
-known_of p = record {
+abbrev pub known_of : Choice → KnownParts → Known
+known_of choice p = record {
   static = p.0.0;
   limit = p.0.1;
+  choice = choice;
   elected = p.1.0.0.elected;
   heard = p.1.0.0.heard;
   refresh_end = p.1.0.0.refresh_end;
@@ -96,8 +97,14 @@ same_or refusal n x = if x.0 == n then Ok x else Err refusal
 abbrev pub tag_at : Reader ℕ
 tag_at bytes = word_at bytes >>= λ t. same_or SavedRefusal.NotOurs tag t
 
-abbrev pub version_at : Reader ℕ
-version_at bytes = half_at bytes >>= λ v. same_or SavedRefusal.OtherVersion version v
+-- what RPs are chosen for, by the version
+abbrev pub choice_of : ℕ × List ℕ → Result (Choice × List ℕ) SavedRefusal
+choice_of v =
+    if v.0 == version_of Choice.Range then Ok (Choice.Range, v.1)
+    else (if v.0 == version_of Choice.Group then Ok (Choice.Group, v.1) else Err SavedRefusal.OtherVersion)
+
+abbrev pub version_at : Reader Choice
+version_at bytes = half_at bytes >>= λ v. choice_of v
 
 -- no bytes are left over
 abbrev pub at_end : Known → List ℕ → Result Known SavedRefusal
@@ -109,7 +116,7 @@ at_end k (b ∷ rest) = Err SavedRefusal.LeftOver
 unfoldable pub known_reading : List ℕ → Result Known SavedRefusal
 known_reading bytes =
     tag_at bytes >>= λ t. version_at t.1 >>= λ v. undamaged bytes
-    >>= λ u. in_turn (made known_of parts_at) word_at v.1 >>= λ x. at_end x.0.0 x.1
+    >>= λ u. in_turn (made (known_of v.0) parts_at) word_at v.1 >>= λ x. at_end x.0.0 x.1
 
 -- ---- tests
 
@@ -120,7 +127,8 @@ are_sound rs = list_all is_rp_range rs && are_apart rs
 -- There is room for the RPs that are kept, and each is one that a message can say.
 unfoldable pub is_sound : Known → Bool
 is_sound k =
-    nat_le (kept_count k.table) (room k) && (are_sound (map range_of k.table.rps) && are_sound (map part_range k.table.parts))
+    nat_le (kept_count k.table) (room k)
+    && (list_all has_mask k.table.rps && (are_sound (map range_of k.table.rps) && are_sound (map part_range k.table.parts)))
 
 abbrev pub restored_if : Bool → Known → Result Known ListenerRefusal
 restored_if true k = Ok k

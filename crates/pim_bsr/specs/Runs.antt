@@ -1,9 +1,10 @@
 -- Worked runs, and values of the hash function that another program printed.
-use Rattle.std.{specs.Prelude.{◌≡◌, ℕ, ◌==◌, ◌&&◌, ◌||◌, false, true, List, [], ◌∷◌, None, Some, filter, map}}
+use Rattle.std.{specs.Prelude.{◌≡◌, ℕ, Option, ◌==◌, ◌&&◌, ◌||◌, false, true, List, [], ◌∷◌, None, Some, filter, map}}
 use Rattle.pim_ip.{specs.{Addr.addr, declared.addr.Prefix.Prefix}}
-use Rattle.pim_types.{specs.declared.config.RpRange.RpRange}
+use Rattle.pim_types.{specs.declared.{config.{RpCandidate.RpCandidate, RpRange.RpRange}, event.EventKind.EventKind}}
+use Rattle.pim_model.{specs.Unicast.rp_among}
 use Rattle.pim_bootstrap.{specs.{declared.bootstrap.CandidateRp.CandidateRp, Bootstraps.{Bootstrap, BootstrapRange}}}
-use Rattle.pim_bsr.{specs.{Choice.hash_value, Hearing.{Around, after_message, heard}, Laws.{AllLeave, Happening, all_after, is_range_at}, Table.{Known, at_time, configured, given}, declared.heard.{Heard.Heard, Why.Why}}}
+use Rattle.pim_bsr.{specs.{Choice.hash_value, Hearing.{Around, after_message, heard}, Joined.{event, loses, time_given}, Laws.{AllLeave, Happening, all_after, is_candidate_at, is_range_at}, Table.{Known, at_time, candidates, choosing, configured, given}, declared.{choice.Choice.Choice, heard.{Heard.Heard, Why.Why}}}}
 
 -- the values that FRR 8.4.4 prints (`show ip pim bsrp-info`) for 239.0.0.0/8 with a mask of 30 bits and the RPs 10.99.0.1,
 -- 10.88.0.9 and 10.77.0.2
@@ -32,6 +33,7 @@ abbrev pub start : Known
 start = record {
   static = own ∷ [];
   limit = 100;
+  choice = Choice.Range;
   elected = None;
   heard = false;
   refresh_end = 60000;
@@ -154,3 +156,68 @@ abbrev pub AsLeft : Type 0
 AsLeft =
     AllLeave eight 151000 two others
     × (map (λ (r : RpRange). r.rp.bits) (filter (is_range_at eight) (given (all_after two others))) ≡ 0x0A63_0001 ∷ [])
+
+-- ---- an RP for each group
+
+-- the same, where an RP is chosen for each group
+abbrev pub by_group : Known
+by_group = choosing Choice.Group two
+
+-- the RP of a group, for what the router is given
+abbrev pub rp_of : Known → ℕ → Option ℕ
+rp_of k g = rp_among (record { static_ranges = given k; candidates = candidates k }) g
+
+abbrev pub offered : ℕ → RpCandidate
+offered rp = record { prefix = eight; rp = addr rp; priority = 5; hash_length = 30 }
+
+-- All RPs of the range are candidates, beside the configured range. By the values of the hash function 239.0.0.1 has 10.99.0.1
+-- (2067580945, 240866473, 53588824), as the whole range has, and 239.0.0.4 has 10.77.0.2 (418197941, 343260749, 974265596);
+-- 239.1.0.4 has the RP of the longer range, which is configured. With one fragment, and past the holdtime, there are none.
+abbrev pub AsOffered : Type 0
+AsOffered =
+    (rps by_group ≡ 0x0A00_0063 ∷ [])
+    × (candidates by_group ≡ offered 0x0A58_0009 ∷ offered 0x0A4D_0002 ∷ offered 0x0A63_0001 ∷ [])
+    × (rp_of by_group 0xEF00_0001 ≡ Some 0x0A63_0001)
+    × (rp_of by_group 0xEF00_0004 ≡ Some 0x0A4D_0002)
+    × (rp_of two 0xEF00_0004 ≡ Some 0x0A63_0001)
+    × (rp_of by_group 0xEF01_0004 ≡ Some 0x0A00_0063)
+    × (candidates (choosing Choice.Group one) ≡ [])
+    × (candidates (at_time 151004 by_group) ≡ candidates by_group)
+    × (candidates (at_time 151005 by_group) ≡ [])
+
+-- a message of all three, in another order, and with another priority of one that isn't chosen for the range
+abbrev pub again : ℕ → Bootstrap
+again priority =
+    message 12
+    (wide 3 (candidate 0x0A63_0001 150 ∷ (record (candidate 0x0A58_0009 150) { priority = priority }) ∷ candidate 0x0A4D_0002 150 ∷ [])
+    ∷ [])
+
+-- The router is given other candidates where one has another priority, or all another hash mask; for the whole range the RP
+-- is the same. What is said again moves nothing.
+abbrev pub AsMoved : Type 0
+AsMoved =
+    (answer by_group 0 0x0A00_0002 (again 5) ≡ Heard.Taken false)
+    × (answer by_group 0 0x0A00_0002 (again 6) ≡ Heard.Taken true)
+    × (answer two 0 0x0A00_0002 (again 6) ≡ Heard.Taken false)
+    × (answer by_group 0 0x0A00_0002 (record (again 5) { hash_length = 29 }) ≡ Heard.Taken true)
+    × (answer two 0 0x0A00_0002 (record (again 5) { hash_length = 29 }) ≡ Heard.Taken false)
+
+-- When the RPs end the router is told so, as candidates or as the range that is left. Where there is room for two of three
+-- RPs, the router is given other candidates; where there is room for all it isn't.
+abbrev pub AsEnded : Type 0
+AsEnded =
+    (time_given 7 3 by_group 160000
+    ≡ event 7 (EventKind.Advance 151005) ∷ event 7 (EventKind.RpCandidates []) ∷ event 7 (EventKind.Advance 160000) ∷ [])
+    × (time_given 7 3 two 160000
+    ≡ event 7 (EventKind.Advance 151005) ∷ event 7 (EventKind.Rps (own ∷ [])) ∷ event 7 (EventKind.Advance 160000) ∷ [])
+    × (candidates (configured 2 [] by_group) ≡ offered 0x0A58_0009 ∷ offered 0x0A4D_0002 ∷ [])
+    × (loses by_group (configured 2 [] by_group) ≡ true)
+    × (loses by_group (configured 3 [] by_group) ≡ false)
+    × (loses two (configured 2 [] two) ≡ false)
+
+-- What leaves the range leaves its candidates.
+abbrev pub AsOfferedLeft : Type 0
+AsOfferedLeft =
+    AllLeave eight 151000 by_group others
+    × (filter (is_candidate_at eight) (candidates (all_after by_group others))
+    ≡ offered 0x0A58_0009 ∷ offered 0x0A4D_0002 ∷ offered 0x0A63_0001 ∷ [])

@@ -3,7 +3,7 @@
 use Rattle.std.{specs.Prelude.{◌≡◌, ℕ, true, List, [], ◌∷◌, Some, Ok, Err}}
 use Rattle.pim_ip.{specs.{Addr.addr, declared.addr.Prefix.Prefix}}
 use Rattle.pim_types.{specs.declared.config.RpRange.RpRange}
-use Rattle.pim_bsr.{specs.{Reading.restored, Table.Known, Text.known_text, declared.{learned.{Elected.Elected, Learned.Learned, Part.Part}, refusal.ListenerRefusal.ListenerRefusal}}}
+use Rattle.pim_bsr.{specs.{Reading.restored, Table.{Known, choosing}, Text.known_text, declared.{choice.Choice.Choice, learned.{Learned.Learned, Part.Part}, refusal.ListenerRefusal.ListenerRefusal}}}
 
 abbrev eight : ℕ → Prefix
 eight address = record { address = addr address; length = 8 }
@@ -26,11 +26,12 @@ waiting = record {
   until = 131000;
 }
 
--- what is known at 1,000 ms, with these RPs in force
+-- what is known at 1,000 ms, with these RPs in force, of which one is chosen for a whole range
 abbrev known : List Learned → Known
 known rps = record {
   static = static;
   limit = 256;
+  choice = Choice.Range;
   elected = Some (record { bsr = addr 0x0A00_0009; priority = 7; end = 131000 });
   heard = true;
   refresh_end = 60000;
@@ -55,6 +56,24 @@ bytes =
 abbrev pub SavedListenerHasBytes : Type 0
 SavedListenerHasBytes = (known_text (known (in_force ∷ [])) ≡ bytes) × (restored bytes ≡ Ok (known (in_force ∷ [])))
 
--- No listener is made of bytes in which an RP stands twice.
+-- the same where an RP is chosen for each group: version 2, and another sum
+abbrev group_bytes : List ℕ
+group_bytes =
+    0x56 ∷ 0x49 ∷ 0x51 ∷ 0x42 ∷ 0 ∷ 2 ∷ 0 ∷ 0 ∷ 0 ∷ 0 ∷ 0 ∷ 0 ∷ 0 ∷ 1 ∷ 0xEF ∷ 9 ∷ 0 ∷ 0 ∷ 0 ∷ 0 ∷ 0 ∷ 0x10 ∷ 0x0A ∷
+    0 ∷ 0 ∷ 1 ∷ 0 ∷ 0 ∷ 0 ∷ 0 ∷ 0 ∷ 0 ∷ 1 ∷ 0 ∷ 1 ∷ 0x0A ∷ 0 ∷ 0 ∷ 9 ∷ 7 ∷ 0 ∷ 0 ∷ 0 ∷ 0 ∷ 0 ∷ 1 ∷ 0xFF ∷ 0xB8 ∷ 1 ∷
+    0 ∷ 0 ∷ 0 ∷ 0 ∷ 0 ∷ 0 ∷ 0xEA ∷ 0x60 ∷ 0 ∷ 0 ∷ 0 ∷ 0 ∷ 0 ∷ 0 ∷ 0 ∷ 1 ∷ 0xEF ∷ 0 ∷ 0 ∷ 0 ∷ 0 ∷ 0 ∷ 0 ∷ 8 ∷ 0x1E ∷
+    0x0A ∷ 0 ∷ 0 ∷ 0x63 ∷ 3 ∷ 0 ∷ 0 ∷ 0 ∷ 0 ∷ 0 ∷ 2 ∷ 0x4D ∷ 0xD8 ∷ 0 ∷ 0 ∷ 0 ∷ 0 ∷ 0 ∷ 0 ∷ 0 ∷ 1 ∷ 0xEE ∷ 0 ∷ 0 ∷
+    0 ∷ 0 ∷ 0 ∷ 0 ∷ 8 ∷ 0x0A ∷ 0x4D ∷ 0 ∷ 2 ∷ 0 ∷ 0x96 ∷ 0 ∷ 0x0A ∷ 0 ∷ 0 ∷ 9 ∷ 0 ∷ 0x0B ∷ 0 ∷ 0 ∷ 0 ∷ 0 ∷ 0 ∷ 1 ∷
+    0xFF ∷ 0xB8 ∷ 0 ∷ 0 ∷ 0 ∷ 0 ∷ 0 ∷ 0 ∷ 0 ∷ 2 ∷ 0x24 ∷ 0 ∷ 0 ∷ 0 ∷ 0 ∷ 0 ∷ 0 ∷ 0 ∷ 7 ∷ 0xD0 ∷ 0xF4 ∷ 0x6A ∷ 0x17 ∷
+    0x9E ∷ []
+
+abbrev pub ByGroupHasBytes : Type 0
+ByGroupHasBytes =
+    (known_text (choosing Choice.Group (known (in_force ∷ []))) ≡ group_bytes)
+    × (restored group_bytes ≡ Ok (choosing Choice.Group (known (in_force ∷ []))))
+
+-- No listener is made of bytes in which an RP stands twice, or has a hash mask of 33 bits.
 abbrev pub TwiceIsRefused : Type 0
-TwiceIsRefused = restored (known_text (known (in_force ∷ in_force ∷ []))) ≡ Err ListenerRefusal.RpsNotHeld
+TwiceIsRefused =
+    (restored (known_text (known (in_force ∷ in_force ∷ []))) ≡ Err ListenerRefusal.RpsNotHeld)
+    × (restored (known_text (known ((record in_force { hash_length = 33 }) ∷ []))) ≡ Err ListenerRefusal.RpsNotHeld)

@@ -1,21 +1,23 @@
 -- What a router that is no candidate BSR knows by Bootstraps (RFC 5059, section 3.1): the elected BSR, and the RPs of
 -- ranges with their ends. Sections are those of RFC 5059.
-use Rattle.std.{specs.{List.{list_all, list_any}, Prelude.{ℕ, Bool, true, ◌+◌, ◌-◌, ◌*◌, ◌==◌, ◌&&◌, ◌||◌, min, nat_le, nat_lt, not, if◌then◌else◌, List, [], ◌∷◌, ◌++◌, filter, fold, length, map, take, Option, Some, None}}}
+use Rattle.std.{specs.{List.{list_all, list_any}, Prelude.{ℕ, Bool, false, true, ◌+◌, ◌-◌, ◌*◌, ◌==◌, ◌&&◌, ◌||◌, min, nat_le, nat_lt, not, if◌then◌else◌, List, [], ◌∷◌, ◌++◌, filter, fold, length, map, take, Option, Some, None}}}
 use Rattle.pim_ip.{specs.{Addr.addr, declared.addr.Prefix.Prefix}}
-use Rattle.pim_types.{specs.declared.config.RpRange.RpRange}
+use Rattle.pim_types.{specs.declared.config.{RpCandidate.RpCandidate, RpRange.RpRange}}
 use Rattle.pim_model.{specs.Limits.{most_rps, same_prefix}}
 use Rattle.pim_bootstrap.{specs.{declared.bootstrap.CandidateRp.CandidateRp, Bootstraps.{Bootstrap, BootstrapRange}}}
-use Rattle.pim_bsr.{specs.{Choice.{is_chosen, masked}, declared.learned.{Elected.Elected, Learned.Learned, Part.Part}}}
+use Rattle.pim_bsr.{specs.{Choice.{is_chosen, masked}, declared.{choice.Choice.Choice, learned.{Elected.Elected, Learned.Learned, Part.Part}}}}
 
 -- The RPs in force, and those of messages whose fragments (4.1.1) haven't all come.
 pub record Table : Type 0 where
   pub rps : List Learned
   pub parts : List Part
 
--- What the front knows, with the configured ranges, and a limit on the RPs that are kept, parts too.
+-- What the front knows, with the configured ranges, a limit on the RPs that are kept, parts too, and what an RP is
+-- chosen for.
 pub record Known : Type 0 where
   pub static : List RpRange
   pub limit : ℕ
+  pub choice : Choice
   pub elected : Option Elected
   -- a Bootstrap was accepted since the start, and until when one with the No-Forward bit may be accepted (3.5.1)
   pub heard : Bool
@@ -24,6 +26,21 @@ pub record Known : Type 0 where
   -- the last message that was accepted, and until when the same bytes are a repetition of it
   pub last : List ℕ
   pub last_end : ℕ
+
+-- What is known before the first message, with a limit and configured ranges; until a timestamp one with the No-Forward bit
+-- may be accepted. One RP is chosen for a whole range.
+abbrev pub new_known : ℕ → List RpRange → ℕ → Known
+new_known limit static refresh_end = record {
+  static = static;
+  limit = limit;
+  choice = Choice.Range;
+  elected = None;
+  heard = false;
+  refresh_end = refresh_end;
+  table = record { rps = []; parts = [] };
+  last = [];
+  last_end = 0;
+}
 
 -- BS_Timeout (5), in ms
 abbrev pub bs_timeout : ℕ
@@ -174,7 +191,7 @@ range_of l = record { prefix = l.prefix; rp = l.rp }
 abbrev pub part_range : Part → RpRange
 part_range q = record { prefix = q.prefix; rp = q.rp.address }
 
--- the router is given the RP: its range isn't configured, and it is chosen
+-- the RP is given as that of its whole range: the range isn't configured, and the RP is chosen
 abbrev pub is_given : List RpRange → List Learned → Learned → Bool
 is_given static rps l = not (is_configured static l) && is_chosen rps l
 
@@ -182,9 +199,35 @@ is_given static rps l = not (is_configured static l) && is_chosen rps l
 unfoldable pub given_of : List RpRange → List Learned → List RpRange
 given_of static rps = static ++ map range_of (filter (is_given static rps) rps)
 
--- the RP ranges that the router is given
+-- an RP in force as one of which the router itself chooses for each group (RFC 7761, 4.7.1)
+abbrev pub candidate_of : Learned → RpCandidate
+candidate_of l = record { prefix = l.prefix; rp = l.rp; priority = l.priority; hash_length = l.hash_length }
+
+-- the RP ranges that the router is given: where it chooses for each group, the configured ones alone
+abbrev pub ranges_by : Choice → List RpRange → List Learned → List RpRange
+ranges_by Choice.Range static rps = given_of static rps
+ranges_by Choice.Group static rps = static
+
+-- the candidates that the router is given: where it chooses for each group, all RPs in force
+abbrev pub candidates_by : Choice → List Learned → List RpCandidate
+candidates_by Choice.Range rps = []
+candidates_by Choice.Group rps = map candidate_of rps
+
 abbrev pub given : Known → List RpRange
-given k = given_of k.static k.table.rps
+given k = ranges_by k.choice k.static k.table.rps
+
+abbrev pub candidates : Known → List RpCandidate
+candidates k = candidates_by k.choice k.table.rps
+
+-- the router is given an RP in force, for its range or as a candidate
+abbrev pub gives_by : Choice → List RpRange → List Learned → Learned → Bool
+gives_by Choice.Range static rps l = is_given static rps l
+gives_by Choice.Group static rps l = true
+
+abbrev pub gives : Known → Learned → Bool
+gives k l = gives_by k.choice k.static k.table.rps l
+
+-- ---- whether the router is to be given something else
 
 -- two ranges have the same prefix and the same RP
 abbrev pub same_range : RpRange → RpRange → Bool
@@ -197,6 +240,28 @@ has_range ranges r = list_any (same_range r) ranges
 -- two lists are as long, and the first has each range of the second
 unfoldable pub same_ranges : List RpRange → List RpRange → Bool
 same_ranges xs ys = (length xs == length ys) && list_all (has_range xs) ys
+
+-- two RPs in force are the same candidate: they differ in their ends alone
+abbrev pub same_candidate : Learned → Learned → Bool
+same_candidate a b =
+    has_prefix a.prefix b && (a.rp.bits == b.rp.bits) && (a.priority == b.priority) && (a.hash_length == b.hash_length)
+
+-- a list has the candidate
+unfoldable pub has_candidate : List Learned → Learned → Bool
+has_candidate rps l = list_any (same_candidate l) rps
+
+-- two lists are as long, and the first has each candidate of the second
+unfoldable pub same_candidates : List Learned → List Learned → Bool
+same_candidates xs ys = (length xs == length ys) && list_all (has_candidate xs) ys
+
+-- other RPs in force are others for the router, beside configured ranges
+abbrev pub moves_by : Choice → List RpRange → List Learned → List Learned → Bool
+moves_by Choice.Range static before after = not (same_ranges (given_of static before) (given_of static after))
+moves_by Choice.Group static before after = not (same_candidates before after)
+
+-- The router is to be given other RPs. Only those in force differ.
+abbrev pub moves : Known → Known → Bool
+moves before after = moves_by after.choice after.static before.table.rps after.table.rps
 
 -- ---- time, and another configuration
 
@@ -238,3 +303,7 @@ configured limit static k = record k {
   limit = limit;
   table = fitting (room_beside limit static) k.table;
 }
+
+-- what is known, where RPs are chosen for whole ranges, or for each group
+abbrev pub choosing : Choice → Known → Known
+choosing choice k = record k { choice = choice }

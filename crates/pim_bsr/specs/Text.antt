@@ -1,10 +1,10 @@
 -- The one text of what a listener knows: numbers in network order, a flag before what needn't be there, a count before a
 -- list.
-use Rattle.std.{specs.Prelude.{ℕ, Bool, Option, List}}
+use Rattle.std.{specs.Prelude.{ℕ, List}}
 use Rattle.pim_types.{specs.declared.config.RpRange.RpRange}
 use Rattle.pim_saved.{specs.{Crc.crc32, Fits.{FitsAddress, FitsByte, FitsHalf, FitsList, FitsMoment, FitsOption, FitsPrefix, FitsRange}, Text.{◌then◌, address_text, byte_text, flag_text, half_text, list_text, moment_text, option_text, prefix_text, range_text, word_text}}}
 use Rattle.pim_bootstrap.{specs.declared.bootstrap.CandidateRp.CandidateRp}
-use Rattle.pim_bsr.{specs.{Table.{Known, Table}, declared.{learned.{Elected.Elected, Learned.Learned, Part.Part}, saved.Election.Election}}}
+use Rattle.pim_bsr.{specs.{Table.{Known, Table}, declared.{choice.Choice.Choice, learned.{Elected.Elected, Learned.Learned, Part.Part}, saved.Election.Election}}}
 
 -- ---- rows
 
@@ -69,15 +69,17 @@ last_text p = list_text byte_text p.0 then moment_text p.1
 abbrev pub tag : ℕ
 tag = 0x5649_5142
 
-abbrev pub version : ℕ
-version = 1
+-- the version: where RPs are chosen for each group another, which tells that
+abbrev pub version_of : Choice → ℕ
+version_of Choice.Range = 1
+version_of Choice.Group = 2
 
 unfoldable pub body_text : Known → List ℕ
 body_text k = configured_text (configured_of k) then said_text (said_of k) then last_text (last_of k)
 
 -- all bytes but for their sum
 unfoldable pub front_text : Known → List ℕ
-front_text k = word_text tag then half_text version then body_text k
+front_text k = word_text tag then half_text (version_of k.choice) then body_text k
 
 -- The bytes of what a listener knows: the last four are the CRC-32 of those before them.
 unfoldable pub known_text : Known → List ℕ

@@ -6,4 +6,4 @@ parts_view x =
     ((x.configured.ranges.items, x.configured.limit), ((x.learned.election, x.learned.table), (x.last.bytes.items, x.last.end)))
 
 abbrev pub known_view : SavedKnown → Known
-known_view x = known_of (parts_view x)
+known_view x = known_of x.choice (parts_view x)

@@ -1,4 +1,4 @@
-//! Which RP of a range is chosen.
+//! Which RP of a range is chosen, and what one is chosen for.
 ghost use Rattle.std.specs.List.{list_any};
 ghost use Rattle.std.specs.Prelude.{◌≡◌, ◌<◌, ◌^◌};
 ghost use Rattle.pim_model.specs.Limits.{same_prefix};
@@ -6,6 +6,15 @@ ghost use Rattle.pim_bsr.specs.Choice.{hash_value, is_beaten_by, is_better, is_c
 
 use crate::learned::Learned;
 use pim_ip::{Addr, Prefix};
+
+/// What an RP is chosen for, of several that a range has.
+#[derive(Clone, Copy, PartialEq, Eq, Debug)]
+pub enum Choice {
+    /// For the range: all its groups have one RP, which the router is given in an RP range.
+    Range,
+    /// For each group (RFC 7761, section 4.7.2): the router is given all RPs as candidates, and chooses itself.
+    Group,
+}
 
 /// Whether two prefixes are equal.
 pub(crate) fn same_prefix(first: Prefix, second: Prefix) -> bool

@@ -1,9 +1,9 @@
 //! What a router learns of RPs by Bootstraps (RFC 5059) in front of it: which messages count, what they say until when,
-//! which RP ranges the router is given for that, and where the messages are sent on. The router is no candidate BSR, and
+//! which RPs the router is given for that, and where the messages are sent on. The router is no candidate BSR, and
 //! zones aren't built. [`Listener`] says the calls that a program makes.
 #![tactic(auto)]
 
-mod choice;
+pub mod choice;
 mod given;
 pub mod heard;
 pub mod laws;
@@ -16,6 +16,7 @@ mod sound;
 pub mod surroundings;
 mod table;
 
+pub use choice::Choice;
 pub use heard::{Heard, Why};
 pub use learned::{Elected, Learned, Part};
 pub use listener::{Listener, MOST_RPS};

@@ -1,10 +1,12 @@
 //! What a listener knew, read of bytes.
-ghost use Rattle.pim_bsr.specs.Reading.{at_end, configured_at, known_reading, last_at, said_at, parts_at, table_at, tag_at, version_at};
-ghost use Rattle.pim_bsr.specs.Views.{known_view, parts_view};
-ghost use Rattle.pim_saved.specs.Reading.{undamaged};
+ghost use Rattle.pim_bsr.specs.Reading.{at_end, configured_at, known_reading, last_at, said_at, known_of, parts_at, table_at, tag_at, version_at};
+ghost use Rattle.pim_bsr.specs.Text.{version_of};
+ghost use Rattle.pim_bsr.specs.Views.{known_view};
+ghost use Rattle.pim_saved.specs.Reading.{made, undamaged};
 ghost use Rattle.pim_saver.specs.Read.{Gives, read};
 ghost use Rattle.std.specs.Prelude.{◌≡◌};
 
+use crate::choice::Choice;
 use crate::saved::Election;
 use crate::table::Table;
 use pim_saved::SavedRefusal;
@@ -15,8 +17,15 @@ use std::alloc::Global;
 /// The first four bytes of a saved listener: `VIQB`.
 pub(crate) const TAG: u32 = 0x5649_5142;
 
-/// The version of its format.
-pub(crate) const VERSION: u16 = 1;
+/// The version of its format, which tells what an RP is chosen for.
+pub(crate) fn version_of(choice: Choice) -> u16
+    ensures { result ≡ version_of choice }
+{
+    match choice {
+        Choice::Range => 1,
+        Choice::Group => 2,
+    }
+}
 
 /// The configured ranges and the limit.
 #[derive(Drop)]
@@ -42,6 +51,7 @@ pub(crate) struct SavedMessage {
 /// What a listener knew.
 #[derive(Drop)]
 pub(crate) struct SavedKnown {
+    pub(crate) choice: Choice,
     pub(crate) configured: SavedRanges,
     pub(crate) learned: SavedSaid,
     pub(crate) last: SavedMessage,
@@ -93,13 +103,14 @@ fn read_last(alloc: Global, bytes: &[u8]) -> Result<(SavedMessage, &[u8]), ReadF
 
 // Reads what a listener knew, behind the version.
 #[tactic(auto, unfolding(crate::specs::Reading::parts_at))]
-fn read_parts(alloc: Global, bytes: &[u8]) -> Result<(SavedKnown, &[u8]), ReadFault>
-    ensures { Gives (λ x. (parts_view x.0, x.1.now)) result (parts_at bytes.now) }
+fn read_parts(alloc: Global, choice: Choice, bytes: &[u8]) -> Result<(SavedKnown, &[u8]), ReadFault>
+    ensures { Gives (λ x. (known_view x.0, x.1.now)) result (made (known_of choice) parts_at bytes.now) }
 {
     let (configured, rest) = read_configured(alloc, bytes)?;
     let (learned, rest) = read_said(alloc, rest)?;
     let (last, rest) = read_last(alloc, rest)?;
     let known = SavedKnown {
+        choice,
         configured,
         learned,
         last,
@@ -118,15 +129,18 @@ fn read_tag(bytes: &[u8]) -> Result<(u32, &[u8]), SavedRefusal>
     Ok((tag, rest))
 }
 
-// Reads the version.
-fn read_version(bytes: &[u8]) -> Result<(u16, &[u8]), SavedRefusal>
+// Reads the version: what an RP is chosen for.
+fn read_version(bytes: &[u8]) -> Result<(Choice, &[u8]), SavedRefusal>
     ensures { read result ≡ version_at bytes.now }
 {
     let (version, rest) = u16::read(bytes)?;
-    if version != VERSION {
-        return Err(SavedRefusal::OtherVersion);
+    if version == version_of(Choice::Range) {
+        return Ok((Choice::Range, rest));
     }
-    Ok((version, rest))
+    if version == version_of(Choice::Group) {
+        return Ok((Choice::Group, rest));
+    }
+    Err(SavedRefusal::OtherVersion)
 }
 
 // Whether the last four bytes are the sum of those before them.
@@ -159,9 +173,9 @@ pub(crate) fn read_known(alloc: Global, bytes: &[u8]) -> Result<SavedKnown, Read
     ensures { Gives (λ k. known_view k) result (known_reading bytes.now) }
 {
     let (_, rest) = read_tag(bytes)?;
-    let (_, rest) = read_version(rest)?;
+    let (choice, rest) = read_version(rest)?;
     check_sum(bytes)?;
-    let (known, rest) = read_parts(alloc, rest)?;
+    let (known, rest) = read_parts(alloc, choice, rest)?;
     let (_, rest) = u32::read(rest)?;
     finished(known, rest)
 }

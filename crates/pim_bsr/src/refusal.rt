@@ -6,7 +6,8 @@ use pim_saved::SavedRefusal;
 pub enum ListenerRefusal {
     /// The bytes are no saved listener of this version.
     Bytes(SavedRefusal),
-    /// There are more RPs than a listener keeps, one is of no range that a router takes, or one stands twice.
+    /// There are more RPs than a listener keeps, one is of no range that a router takes, or has a hash mask that no
+    /// address can have, or one stands twice.
     RpsNotHeld,
 }
 

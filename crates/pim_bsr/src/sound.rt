@@ -3,7 +3,7 @@ ghost use Rattle.std.specs.List.{list_all};
 ghost use Rattle.std.specs.Prelude.{◌≡◌, map, IfOk};
 ghost use Rattle.pim_model.specs.Limits.{is_rp_range};
 ghost use Rattle.pim_bsr.specs.Reading.{are_sound, is_sound};
-ghost use Rattle.pim_bsr.specs.Sound.{are_apart};
+ghost use Rattle.pim_bsr.specs.Sound.{are_apart, has_mask};
 ghost use Rattle.pim_bsr.specs.Table.{part_range, range_of};
 ghost use Rattle.pim_bsr.specs.Views.{known_view};
 
@@ -84,6 +84,13 @@ fn part_ranges(alloc: Global, parts: &[Part]) -> Result<Vec<RpRange>, AllocError
     Ok(ranges)
 }
 
+// Whether an address can have the hash mask of each of the RPs.
+fn have_masks(rps: &[Learned]) -> bool
+    ensures { result ≡ list_all has_mask rps.now }
+{
+    rps.iter().all(|learned| learned.hash_length <= 32)
+}
+
 /// Whether there is room for the RPs that are kept, and each is one that a message can say, and stands once.
 #[tactic(auto, unfolding(crate::specs::Reading::is_sound))]
 pub(crate) fn is_sound(alloc: Global, known: &SavedKnown) -> Result<bool, AllocError>
@@ -92,7 +99,7 @@ pub(crate) fn is_sound(alloc: Global, known: &SavedKnown) -> Result<bool, AllocE
     let table = &known.learned.table;
     let limit = known.configured.limit as usize;
     let room = room_beside(limit, known.configured.ranges.as_slice());
-    if table.kept_count() > room as u64 {
+    if table.kept_count() > room as u64 || !have_masks(table.rps()) {
         return Ok(false);
     }
     let rps = ranges_of(alloc, table.rps())?;

@@ -3,7 +3,7 @@ use Rattle.std.{specs.{Option.option_map_or, Prelude.{[], Bool, Err, List, None,
 use Rattle.pim_ip.{specs.{Fault.fault_number, Refusal.refusal_number, declared.refusal.Refusal.Refusal}}
 use Rattle.pim_types.{specs.declared.{config.RpRange.RpRange, event.EventKind.EventKind, outcome.Ignored.Ignored}}
 use Rattle.pim_model.{specs.Limits.most_rps}
-use Rattle.pim_bsr.{specs.{Hearing.{Hearing, takes_memory}, Joined.{first_end, is_due}, Reading.restored, Refused.listener_refusal_number, Table.{Known, at_time, configured, given, is_given, same_ranges}, Text.known_text, declared.{heard.{Heard.Heard, Why.Why}, learned.{Elected.Elected, Learned.Learned, Part.Part}, refusal.ListenerRefusal.ListenerRefusal}}}
+use Rattle.pim_bsr.{specs.{Hearing.{Hearing, is_moved, takes_memory}, Joined.{first_end, is_due, rps_event}, Reading.restored, Refused.listener_refusal_number, Table.{Known, at_time, choosing, configured, given, gives, moves, new_known}, Text.known_text, declared.{choice.Choice.Choice, heard.{Heard.Heard, Why.Why}, learned.{Elected.Elected, Learned.Learned, Part.Part}, refusal.ListenerRefusal.ListenerRefusal}}}
 use Rattle.pim_router.{specs.Standing.Standing}
 use Rattle.pim_session.{specs.{Heard.heard_at, Session.ShownSession, Untaken.has_untaken, declared.stop.Stop.Stop}}
 use Rattle.pim_c.{specs.{Called.Copied, Given.given_event, Returned.{ignored_number, written_into}, Written.{NoBytesWritten, Untouched}, declared.{given.GivenRange.GivenRange, learned.{CElected.CElected, LearnedRow.LearnedRow, PartRow.PartRow}}}}
@@ -31,13 +31,6 @@ heard_number (Heard.Refused refusal) = refusal_number refusal
 heard_number (Heard.Ignored why) = why_number why
 heard_number (Heard.Taken moved) = 0
 
--- the router is to be given other ranges
-abbrev pub is_moved : Heard → Bool
-is_moved (Heard.Taken moved) = moved
-is_moved Heard.Other = false
-is_moved (Heard.Refused refusal) = false
-is_moved (Heard.Ignored why) = false
-
 -- The number of why a packet wasn't heard.
 abbrev pub unheard_number : Stop → ℕ
 unheard_number Stop.Untaken = 55
@@ -45,19 +38,6 @@ unheard_number Stop.Guarded = 109
 unheard_number (Stop.Fault fault) = fault_number fault
 
 -- ---- calls
-
--- what a new listener knows
-abbrev pub new_known : ℕ → List RpRange → ℕ → Known
-new_known limit static refresh_end = record {
-  static = static;
-  limit = limit;
-  elected = None;
-  heard = false;
-  refresh_end = refresh_end;
-  table = record { rps = []; parts = [] };
-  last = [];
-  last_end = 0;
-}
 
 -- A number that is no limit is refused; else a listener was made, or an allocation failed.
 abbrev pub ListenerMade : Option Known → Option ℕ → List RpRange → ℕ → ℕ → Option Known → Type 0
@@ -111,10 +91,10 @@ abbrev pub HeardBy : Option Known → Option ShownSession → ℕ → List ℕ �
 HeardBy None router i bytes answer moved after left = (answer ≡ 56) × (moved ≡ false) × (after ≡ None) × (left ≡ router)
 HeardBy (Some k) router i bytes answer moved after left = HeardAt k router i bytes answer moved after left
 
--- The router took the ranges of the listener, if there is one.
+-- The router took the RPs of the listener, if there is one.
 abbrev pub GivenTo : Option Known → Option ShownSession → ℕ → ℕ → Option ShownSession → Type 0
 GivenTo None old draw answer left = (answer ≡ 56) × (left ≡ old)
-GivenTo (Some k) old draw answer left = Copied old (given_event draw (EventKind.Rps (given k))) answer left
+GivenTo (Some k) old draw answer left = Copied old (given_event draw (rps_event k)) answer left
 
 -- when the first of the RPs in force expires
 abbrev pub first_end_in : Option Known → Option ℕ
@@ -124,7 +104,7 @@ first_end_in listener = option_and_then (λ (k : Known). first_end k.table.rps) 
 abbrev pub PassedBy : Option Known → ℕ → ℕ → Bool → Option Known → Type 0
 PassedBy None moment answer moved left = (answer ≡ 56) × (moved ≡ false) × (left ≡ None)
 PassedBy (Some k) moment answer moved left =
-    ((answer ≡ 0) × (moved ≡ not (same_ranges (given k) (given (at_time moment k)))) × (left ≡ Some (at_time moment k)))
+    ((answer ≡ 0) × (moved ≡ moves k (at_time moment k)) × (left ≡ Some (at_time moment k)))
     ⊎ ((is_due (first_end k.table.rps) moment ≡ true) × (answer ≡ 40) × (moved ≡ false) × (left ≡ Some k))
 
 -- The router took the ranges of a listener with others configured; where that is done the listener has these.
@@ -142,6 +122,27 @@ RangesSetAt (Some k) old draw limit static answer None left = ⊥
 abbrev pub RangesSetBy : Option Known → Option ShownSession → ℕ → Option ℕ → List RpRange → ℕ → Option Known → Option ShownSession → Type 0
 RangesSetBy k old draw None static answer after left = (answer ≡ 54) × (after ≡ k) × (left ≡ old)
 RangesSetBy k old draw (Some limit) static answer after left = RangesSetAt k old draw limit static answer after left
+
+-- ---- what an RP is chosen for
+
+-- by its number
+abbrev pub choice_of : ℕ → Option Choice
+choice_of number =
+    if number == 0 then Some Choice.Range else (if number == 1 then Some Choice.Group else None)
+
+-- the number of what an RP is chosen for; without a listener it is for a range
+abbrev pub choice_number : Choice → ℕ
+choice_number Choice.Range = 0
+choice_number Choice.Group = 1
+
+abbrev pub choice_in : Option Known → ℕ
+choice_in listener = option_map_or (λ (k : Known). choice_number k.choice) listener 0
+
+-- A number that is no choice is refused; else the listener has RPs chosen for it.
+abbrev pub Chosen : Option Known → Option Choice → ℕ → Option Known → Type 0
+Chosen k None answer left = (answer ≡ 54) × (left ≡ k)
+Chosen None (Some choice) answer left = (answer ≡ 56) × (left ≡ None)
+Chosen (Some k) (Some choice) answer left = (answer ≡ 0) × (left ≡ Some (choosing choice k))
 
 -- ---- what is known
 
@@ -179,7 +180,7 @@ row_of_learned is_given l = record {
 
 -- An RP in force of what is known, as C reads it.
 abbrev pub learned_row_of : Known → Learned → LearnedRow
-learned_row_of k l = row_of_learned (is_given k.static k.table.rps l) l
+learned_row_of k l = row_of_learned (gives k l) l
 
 abbrev pub learned_row_in : Option Known → Learned → LearnedRow
 learned_row_in listener l = option_map_or (λ (k : Known). learned_row_of k l) listener (row_of_learned false l)

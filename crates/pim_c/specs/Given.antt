@@ -1,10 +1,10 @@
 -- What the values that a program gives stand for.
 use Rattle.std.{specs.Prelude.{List, None, Option, Some, if◌then◌else◌, map, ℕ, ◌==◌}}
 use Rattle.pim_ip.{specs.{Addr.addr, declared.addr.Prefix.Prefix}}
-use Rattle.pim_types.{specs.declared.{config.{Config.Config, InterfaceConfig.InterfaceConfig, Route.Route, RpRange.RpRange, SptSwitch.SptSwitch}, event.{Event.Event, EventKind.EventKind}}}
+use Rattle.pim_types.{specs.declared.{config.{Config.Config, InterfaceConfig.InterfaceConfig, Route.Route, RpCandidate.RpCandidate, RpRange.RpRange, SptSwitch.SptSwitch}, event.{Event.Event, EventKind.EventKind}}}
 use Rattle.pim_anycast.{specs.declared.set.RpSet.RpSet}
 use Rattle.pim_ifset.{specs.Members.iface_of}
-use Rattle.pim_c.{specs.declared.given.{GivenConfiguration.GivenConfiguration, GivenInterface.GivenInterface, GivenRange.GivenRange, GivenRoute.GivenRoute, GivenRpSet.GivenRpSet}}
+use Rattle.pim_c.{specs.declared.given.{GivenCandidate.GivenCandidate, GivenConfiguration.GivenConfiguration, GivenInterface.GivenInterface, GivenRange.GivenRange, GivenRoute.GivenRoute, GivenRpSet.GivenRpSet}}
 
 abbrev pub interface_of : GivenInterface → InterfaceConfig
 interface_of g = record {
@@ -29,6 +29,14 @@ route_of g = record {
 
 abbrev pub range_of : GivenRange → RpRange
 range_of g = record { prefix = given_prefix g.prefix g.length; rp = addr g.rp }
+
+abbrev pub candidate_of : GivenCandidate → RpCandidate
+candidate_of g = record {
+  prefix = given_prefix g.prefix g.length;
+  rp = addr g.rp;
+  priority = g.priority;
+  hash_length = g.hash_length;
+}
 
 abbrev pub rp_set_of : GivenRpSet → RpSet
 rp_set_of g = record { shared = addr g.shared; own = addr g.own; others = map addr g.others.now }

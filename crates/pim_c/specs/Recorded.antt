@@ -4,7 +4,7 @@ use Rattle.pim_ifset.{specs.Members.iface_of}
 use Rattle.pim_ip.{specs.Addr.addr}
 use Rattle.pim_types.{specs.declared.{config.Config.Config, event.EventKind.EventKind}}
 use Rattle.pim_saver.{specs.{Records.{Call, Guard, Hosts, Kept, Record, Reloaded, Seen, Sets, Version, event_record, front_text, placed_call, record_text, settings_in, summed}, declared.answered.Answered.Answered}}
-use Rattle.pim_c.{specs.{Given.{range_of, route_of, rp_set_of}, Returned.written_into, Written.NoBytesWritten, declared.{given.{GivenRange.GivenRange, GivenRoute.GivenRoute, GivenRpSet.GivenRpSet}, recorded.GivenCall.GivenCall}}}
+use Rattle.pim_c.{specs.{Given.{candidate_of, range_of, route_of, rp_set_of}, Returned.written_into, Written.NoBytesWritten, declared.{given.{GivenCandidate.GivenCandidate, GivenRange.GivenRange, GivenRoute.GivenRoute, GivenRpSet.GivenRpSet}, recorded.GivenCall.GivenCall}}}
 
 abbrev pub answered_of : GivenCall → Answered
 answered_of c = record { answer = c.answer; sum = c.sum }
@@ -51,6 +51,13 @@ ranges_record c ranges = event_record c.draw (EventKind.Rps (map range_of ranges
 
 abbrev pub ranges_text : GivenCall → List GivenRange → List ℕ
 ranges_text c ranges = record_text (ranges_record c ranges)
+
+abbrev pub candidates_record : GivenCall → List GivenCandidate → Record
+candidates_record c candidates =
+    event_record c.draw (EventKind.RpCandidates (map candidate_of candidates)) (answered_of c)
+
+abbrev pub candidates_text : GivenCall → List GivenCandidate → List ℕ
+candidates_text c candidates = record_text (candidates_record c candidates)
 
 abbrev pub rp_sets_record : GivenCall → List GivenRpSet → Record
 rp_sets_record c sets = record { call = Sets (map rp_set_of sets); answered = answered_of c }

@@ -1,6 +1,6 @@
 //! The functions that C calls of a listener for Bootstraps (RFC 5059). Each takes the listener out of its handle, calls
 //! it, and puts it back; in which order a program calls them says `pim_bsr::Listener`.
-ghost use Rattle.pim_c.specs.Bootstraps.{GivenTo, HeardBy, ListenerMade, ListenerRestored, ListenerSaved, PassedBy, RangesSet, RangesSetBy, elected_in, elected_of, first_end_in, learned_row_in, limit_of, part_row_of, parts_in, rps_in, static_in, told_range};
+ghost use Rattle.pim_c.specs.Bootstraps.{Chosen, GivenTo, HeardBy, ListenerMade, ListenerRestored, ListenerSaved, PassedBy, RangesSet, RangesSetBy, choice_in, choice_of, elected_in, elected_of, first_end_in, learned_row_in, limit_of, part_row_of, parts_in, rps_in, static_in, told_range};
 ghost use Rattle.pim_c.specs.Given.{given_event, range_of};
 ghost use Rattle.pim_c.specs.Returned.{never};
 ghost use Rattle.pim_c.specs.Written.{ValueWritten};
@@ -94,7 +94,7 @@ pub extern "C" fn viq_core_bsr_end(alloc: Global, listener: &mut ListenerHandle)
 }
 
 /// Has a listener hear a packet that the router ignored for its type. What it sends on is to be taken as what a router
-/// sends. `moved` says whether the router is to be given other ranges.
+/// sends. `moved` says whether the router is to be given other RPs.
 #[unsafe(no_mangle)]
 pub extern "C" fn viq_core_bsr_hear(
     alloc: Global,
@@ -138,7 +138,7 @@ fn new_ranges(draw: u32, ranges: Vec<RpRange>) -> Event
     Event { draw, kind }
 }
 
-/// The router's RP ranges are replaced by those of a listener.
+/// The router's RP ranges are replaced by those of a listener, or its candidates where an RP is chosen for each group.
 #[unsafe(no_mangle)]
 pub extern "C" fn viq_core_bsr_give(
     alloc: Global,
@@ -152,10 +152,10 @@ pub extern "C" fn viq_core_bsr_give(
     let Some(hearing) = listener.take(alloc) else {
         return NO_LISTENER;
     };
-    let ranges = hearing.given(alloc);
+    let kind = hearing.rps_event(alloc);
     listener.put(hearing);
-    match ranges {
-        Ok(ranges) => router.step(alloc, &LentEvent::of(&new_ranges(draw, ranges))),
+    match kind {
+        Ok(kind) => router.step(alloc, &LentEvent::of(&Event { draw, kind })),
         Err(_) => router.refuse(alloc),
     }
 }
@@ -175,7 +175,7 @@ pub extern "C" fn viq_core_bsr_next(alloc: Global, listener: &mut ListenerHandle
 }
 
 /// Time passed to a timestamp, in ms: what expired is forgotten. `moved` says whether the router is to be given other
-/// ranges.
+/// RPs.
 #[unsafe(no_mangle)]
 pub extern "C" fn viq_core_bsr_pass(
     alloc: Global,
@@ -251,6 +251,40 @@ pub extern "C" fn viq_core_bsr_ranges(
     let answer = set_ranges(alloc, hearing.as_mut(), router, draw, limit, ranges);
     listener.put(hearing);
     answer
+}
+
+/// Has an RP chosen for a range, by 0, or for each group, by 1.
+#[unsafe(no_mangle)]
+pub extern "C" fn viq_core_bsr_choose(
+    alloc: Global,
+    listener: &mut ListenerHandle,
+    choice: u32,
+) -> u32
+    ensures { Chosen listener.old.place.inside (choice_of choice) result listener.new.place.inside }
+{
+    let Some(choice) = listening::choice(choice) else {
+        return NO_SETTING;
+    };
+    let Some(mut hearing) = listener.take(alloc) else {
+        return NO_LISTENER;
+    };
+    hearing.choose(choice);
+    listener.put(hearing);
+    DONE
+}
+
+/// What an RP is chosen for: a range, by 0, or each group, by 1.
+#[unsafe(no_mangle)]
+pub extern "C" fn viq_core_bsr_choice(alloc: Global, listener: &mut ListenerHandle) -> u32
+    ensures choice { result ≡ choice_in listener.old.place.inside }
+    ensures stays { listener.new.place.inside ≡ listener.old.place.inside }
+{
+    let Some(hearing) = listener.take(alloc) else {
+        return 0;
+    };
+    let choice = listening::choice_number(hearing.choice());
+    listener.put(hearing);
+    choice
 }
 
 /// How many ranges are configured.

@@ -1,9 +1,9 @@
 //! The functions that C calls. Each takes the session out of the handle, calls it, and puts it back.
 ghost use Rattle.law_plane.specs.Seen.{seen_event};
 ghost use Rattle.pim_c.specs.Called.{CachedWritten, Copied, GuardSetBy, HostsSetBy, KeepAnswered, Made, OffloadWritten, OlderRead, PacketTaken, ReadBy, Restored, RpSetsSet, Saved, Seen, Stepped, VersionSetBy, changed_in, cleared, may_differ_in, older_rows_in, packets_in, probes_in, rows_in, standing_in, touched_in};
-ghost use Rattle.pim_c.specs.Given.{config_of, given_event, place_of, range_of, route_of, rp_set_of};
+ghost use Rattle.pim_c.specs.Given.{candidate_of, config_of, given_event, place_of, range_of, route_of, rp_set_of};
 ghost use Rattle.pim_c.specs.Placed.{PlacedCopy};
-ghost use Rattle.pim_c.specs.Recorded.{Written, given_text, placed_text, ranges_text, reload_text, routes_text, rp_sets_text};
+ghost use Rattle.pim_c.specs.Recorded.{Written, candidates_text, given_text, placed_text, ranges_text, reload_text, routes_text, rp_sets_text};
 ghost use Rattle.pim_c.specs.Reloaded.{ReloadedCopy};
 ghost use Rattle.pim_c.specs.Rows.{row_of};
 ghost use Rattle.pim_c.specs.Returned.{guard_of, name_of, never, older_group_of, older_hosts_of, query_version_of, table_of_letter};
@@ -18,7 +18,7 @@ ghost use Rattle.std.specs.List.{slice_get};
 ghost use Rattle.std.specs.Option.{option_map_or};
 ghost use Rattle.std.specs.Prelude.{◌≡◌, None, length, map, nat_lt, option_and_then, option_map, unwrap_or};
 
-use crate::given::{self, GivenConfiguration, GivenRange, GivenRoute, GivenRpSet};
+use crate::given::{self, GivenCandidate, GivenConfiguration, GivenRange, GivenRoute, GivenRpSet};
 use crate::handle::Handle;
 use crate::recorded::{self, GivenCall};
 use crate::returned::{
@@ -251,6 +251,22 @@ pub extern "C" fn viq_core_ranges(
     ensures { Copied router.old.place.inside (given_event draw (EventKind.Rps (map range_of ranges.now))) result router.new.place.inside }
 {
     match given::new_ranges(alloc, draw, ranges) {
+        Ok(event) => router.step(alloc, &LentEvent::of(&event)),
+        Err(_) => router.refuse(alloc),
+    }
+}
+
+/// The candidate RPs are replaced.
+#[unsafe(no_mangle)]
+pub extern "C" fn viq_core_candidates(
+    alloc: Global,
+    router: &mut Handle,
+    draw: u32,
+    candidates: &[GivenCandidate],
+) -> u32
+    ensures { Copied router.old.place.inside (given_event draw (EventKind.RpCandidates (map candidate_of candidates.now))) result router.new.place.inside }
+{
+    match given::new_candidates(alloc, draw, candidates) {
         Ok(event) => router.step(alloc, &LentEvent::of(&event)),
         Err(_) => router.refuse(alloc),
     }
@@ -829,6 +845,21 @@ pub extern "C" fn viq_core_record_ranges(
     ensures { Written (ranges_text call.now ranges.now) result size.old size.new room.old room.new }
 {
     recorded::tell(recorded::ranges_record(alloc, call, ranges), room, size)
+}
+
+/// The record of new candidate RPs, written so.
+#[unsafe(no_mangle)]
+pub extern "C" fn viq_core_record_candidates(
+    alloc: Global,
+    call: &GivenCall,
+    candidates: &[GivenCandidate],
+    room: &mut [u8],
+    size: &mut usize,
+) -> u32
+    ensures { Written (candidates_text call.now candidates.now) result size.old size.new room.old room.new }
+{
+    let record = recorded::candidates_record(alloc, call, candidates);
+    recorded::tell(record, room, size)
 }
 
 /// The record of sets of RPs that share an address, written so.

@@ -1,13 +1,13 @@
 //! What a program passes in: the parts of a configuration, and events.
 ghost use Rattle.std.specs.Prelude.{◌≡◌, IfOk, map};
 ghost use Rattle.pim_ip.specs.Addr.{addr};
-ghost use Rattle.pim_c.specs.Given.{config_of, given_event, interface_of, place_of, range_of, route_of, rp_set_of};
+ghost use Rattle.pim_c.specs.Given.{candidate_of, config_of, given_event, interface_of, place_of, range_of, route_of, rp_set_of};
 ghost use Rattle.pim_types.specs.declared.event.EventKind.{EventKind};
 
 use pim_anycast::RpSet;
 use pim_types::{
-    Addr, Config, Event, EventKind, IfaceId, InterfaceConfig, Prefix, Route, RpRange, Series,
-    SptSwitch,
+    Addr, Config, Event, EventKind, IfaceId, InterfaceConfig, Prefix, Route, RpCandidate, RpRange,
+    Series, SptSwitch,
 };
 use std::alloc::{AllocError, Global};
 
@@ -43,6 +43,17 @@ pub struct GivenRange {
     pub prefix: u32,
     pub length: u32,
     pub rp: u32,
+}
+
+/// An RP of a range of groups, which may have several. The ranges of its values are those of `pim_types::RpCandidate`.
+#[repr(C)]
+#[derive(Drop)]
+pub struct GivenCandidate {
+    pub prefix: u32,
+    pub length: u32,
+    pub rp: u32,
+    pub priority: u32,
+    pub hash_length: u32,
 }
 
 /// A set of RPs that share an address. Which are accepted says `pim_anycast::BadRpSet`.
@@ -129,6 +140,21 @@ fn range(given: &GivenRange) -> RpRange
     }
 }
 
+// A candidate RP that C gives.
+fn candidate(given: &GivenCandidate) -> RpCandidate
+    ensures { result ≡ candidate_of given.now }
+{
+    RpCandidate {
+        prefix: Prefix {
+            address: Addr { bits: given.prefix },
+            length: given.length,
+        },
+        rp: Addr { bits: given.rp },
+        priority: given.priority,
+        hash_length: given.hash_length,
+    }
+}
+
 // Addresses that C gives: the router's own of no interface, or those of others of a set.
 fn addresses(alloc: Global, given: &[u32]) -> Result<Series<Addr>, AllocError>
     ensures { IfOk result (λ all. all ≡ map addr given.now) }
@@ -172,6 +198,20 @@ pub fn ranges(alloc: Global, given: &[GivenRange]) -> Result<Series<RpRange>, Al
     let mut all = Series::new(alloc);
     for one in given {
         all.push(range(one))?;
+    }
+    Ok(all)
+}
+
+/// Candidate RPs.
+pub fn candidates(
+    alloc: Global,
+    given: &[GivenCandidate],
+) -> Result<Series<RpCandidate>, AllocError>
+    ensures { IfOk result (λ all. all ≡ map candidate_of given.now) }
+{
+    let mut all = Series::new(alloc);
+    for one in given {
+        all.push(candidate(one))?;
     }
     Ok(all)
 }
@@ -266,6 +306,20 @@ pub fn new_ranges(alloc: Global, draw: u32, given: &[GivenRange]) -> Result<Even
 {
     let kind = EventKind::Rps {
         rps: ranges(alloc, given)?,
+    };
+    Ok(Event { draw, kind })
+}
+
+/// New candidate RPs.
+pub fn new_candidates(
+    alloc: Global,
+    draw: u32,
+    given: &[GivenCandidate],
+) -> Result<Event, AllocError>
+    ensures { IfOk result (λ event. event ≡ given_event draw (EventKind.RpCandidates (map candidate_of given.now))) }
+{
+    let kind = EventKind::RpCandidates {
+        candidates: candidates(alloc, given)?,
     };
     Ok(Event { draw, kind })
 }

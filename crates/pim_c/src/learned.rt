@@ -30,7 +30,7 @@ pub struct LearnedRow {
     pub priority: u32,
     /// Of the hash function's mask.
     pub hash_length: u32,
-    /// The router is given it: its range isn't configured, and it is the one that is chosen of its range.
+    /// The router is given it: as the one that is chosen of its range, which isn't configured, or as a candidate.
     pub is_given: bool,
     /// When its holdtime is over, in ms.
     pub end: u64,

@@ -1,10 +1,11 @@
 //! A handle of a listener for Bootstraps, and the numbers of its answers.
-ghost use Rattle.pim_c.specs.Bootstraps.{heard_number, is_moved, limit_of, unheard_number, why_number};
+ghost use Rattle.pim_bsr.specs.Hearing.{is_moved};
+ghost use Rattle.pim_c.specs.Bootstraps.{choice_number, choice_of, heard_number, limit_of, unheard_number, why_number};
 ghost use Rattle.std.specs.Prelude.{◌≡◌, ◌⊎◌, MatchOption, None, Some, is_some};
 
 use crate::listener_place::ListenerPlace;
 use crate::returned::{DONE, GUARDED, MEMORY, UNTAKEN, ignored_number};
-use pim_bsr::{Heard, Listener, MOST_RPS, Why};
+use pim_bsr::{Choice, Heard, Listener, MOST_RPS, Why};
 use pim_session::Stop;
 use pim_types::{Ignored, Refusal};
 use std::alloc::Global;
@@ -65,6 +66,27 @@ pub fn limit(number: u32) -> Option<usize>
     Some(limit)
 }
 
+/// What an RP is chosen for, by its number.
+pub fn choice(number: u32) -> Option<Choice>
+    ensures { result ≡ choice_of number }
+{
+    match number {
+        0 => Some(Choice::Range),
+        1 => Some(Choice::Group),
+        _ => None,
+    }
+}
+
+/// The number of what an RP is chosen for.
+pub fn choice_number(choice: Choice) -> u32
+    ensures { result ≡ choice_number choice }
+{
+    match choice {
+        Choice::Range => 0,
+        Choice::Group => 1,
+    }
+}
+
 // The number of why a Bootstrap doesn't count.
 fn why_number(why: Why) -> u32
     ensures { result ≡ why_number why }
@@ -92,7 +114,7 @@ pub fn heard_number(heard: Heard) -> u32
     }
 }
 
-/// Whether the router is to be given other RP ranges for a packet.
+/// Whether the router is to be given other RPs for a packet.
 pub fn is_moved(heard: Heard) -> bool
     ensures { result ≡ is_moved heard }
 {

@@ -1,9 +1,9 @@
 //! Records of calls, which a program writes one behind the other.
-ghost use Rattle.pim_c.specs.Recorded.{Written, answered_of, given_front, given_text, placed_text, ranges_text, reload_text, routes_text, rp_sets_text};
+ghost use Rattle.pim_c.specs.Recorded.{Written, answered_of, candidates_text, given_front, given_text, placed_text, ranges_text, reload_text, routes_text, rp_sets_text};
 ghost use Rattle.pim_c.specs.Written.{NoBytesWritten};
 ghost use Rattle.std.specs.Prelude.{◌≡◌, ◌++◌, IfOk, OnErr, OnOk};
 
-use crate::given::{self, GivenRange, GivenRoute, GivenRpSet};
+use crate::given::{self, GivenCandidate, GivenRange, GivenRoute, GivenRpSet};
 use crate::returned::{self, DONE, MEMORY};
 use pim_saver::Answered;
 use pim_types::{Addr, Config, IfaceId};
@@ -100,6 +100,21 @@ pub fn ranges_record(
     let ranges = given::ranges(alloc, ranges)?;
     let mut out = Vec::new(alloc);
     pim_saver::write_ranges(call.draw, ranges.as_slice(), answered(call), &mut out)?;
+    pim_saver::end_record(&mut out)?;
+    Ok(out)
+}
+
+/// The bytes of the record of new candidate RPs.
+pub fn candidates_record(
+    alloc: Global,
+    call: &GivenCall,
+    candidates: &[GivenCandidate],
+) -> Result<Vec<u8>, AllocError>
+    ensures { IfOk result (λ bytes. bytes.items ≡ candidates_text call.now candidates.now) }
+{
+    let candidates = given::candidates(alloc, candidates)?;
+    let mut out = Vec::new(alloc);
+    pim_saver::write_candidates(call.draw, candidates.as_slice(), answered(call), &mut out)?;
     pim_saver::end_record(&mut out)?;
     Ok(out)
 }

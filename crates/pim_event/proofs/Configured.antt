@@ -1,11 +1,11 @@
 -- Where what is accepted is about an interface, that is one of the router's; where it is about a moment, that is one
--- that an event may have; and routes and RP ranges are those of the event.
+-- that an event may have; and routes, RP ranges and candidates are those of the event.
 use Rattle.std.{proofs.{Common.{◌≡◌, ◌<◌, ◌≤◌, ℕ, Bool, Box, Global, Option, true, false, not, nat_le, nat_lt, Ok, Err, List, length, arith, refl, subst, sym, ◌∙◌, ◌==◌, ◌&&◌}, lemmas.Bool.Decides.nat_tests}, specs.Prelude.if◌then◌else◌}
 use Rattle.pim_ip.{specs.{Addr.addr, Ipv4.{Packet, all_pim_routers, frame_limit, ipv4_reading, is_link_local, is_multicast, protocol_igmp, protocol_pim}, declared.refusal.Refusal.Refusal}}
 use Rattle.pim_types.{specs.declared.{config.IfaceId.IfaceId, event.EventKind.EventKind, outcome.{Ignored.Ignored, Stop.Stop}}}
 use Rattle.pim_wire.{specs.{Messages.pim_reading, RegisterParts.registered_group, Values.JoinPrune, declared.view.PimView.PimView}}
 use Rattle.igmp_wire.{specs.{Messages.igmp_reading, declared.view.IgmpView.IgmpView}}
-use Rattle.pim_model.{specs.{declared.accepted.Accepted.Accepted, Hellos.hello_holdtime_of, Judging.{Judged, advance_judged, assert_judged, data_judged, down_judged, frame_judged, hello_judged, igmp_accepted, igmp_judged, igmp_message_judged, ignore_if, join_prune_judged, judged, last_moment, of_read, packet_judged, pim_judged, pim_message_judged, pim_to_me_judged, refuse_if, register_judged, register_stop_judged, routes_judged, rps_judged, unicast_judged, unicast_packet_judged, up_judged, ◌>>◌}, Limits.{are_routes, are_rps}, Neighbours.is_neighbour, State.{InterfaceTable, State, iface_count, interfaces_of, is_own, is_up, my_address}, Unicast.is_rp}}
+use Rattle.pim_model.{specs.{declared.accepted.Accepted.Accepted, Hellos.hello_holdtime_of, Judging.{Judged, advance_judged, assert_judged, candidates_judged, data_judged, down_judged, frame_judged, hello_judged, igmp_accepted, igmp_judged, igmp_message_judged, ignore_if, join_prune_judged, judged, last_moment, of_read, packet_judged, pim_judged, pim_message_judged, pim_to_me_judged, refuse_if, register_judged, register_stop_judged, routes_judged, rps_judged, unicast_judged, unicast_packet_judged, up_judged, ◌>>◌}, Limits.{are_routes, are_rps, are_candidates}, Neighbours.is_neighbour, State.{InterfaceTable, State, iface_count, interfaces_of, is_own, is_up, my_address}, Unicast.{is_rp, with_candidates, with_ranges}}}
 use Rattle.pim_mrib.{specs.Routes.RouteTable}
 use Rattle.pim_intake.{specs.Brought.IsTableOf}
 use Rattle.pim_plan.{specs.Naming.{Brings, IsConfigured}}
@@ -17,15 +17,16 @@ below i n e = grind (arith, nat_tests, e)
 within : (m n : ℕ) → nat_lt n m ≡ false → m ≤ n
 within m n e = grind (arith, nat_tests, e)
 
--- the event brings the routes, or the RP ranges, that are accepted
-abbrev IsBroughtBy : EventKind → Accepted → Type 0
-IsBroughtBy kind (Accepted.Routes routes) = kind ≡ EventKind.Routes routes
-IsBroughtBy kind (Accepted.Rps ranges) = kind ≡ EventKind.Rps ranges
-IsBroughtBy kind _ = Unit {0}
+-- the event brings the routes that are accepted, or its table has the RP ranges and candidates that are
+abbrev IsBroughtBy : State → EventKind → Accepted → Type 0
+IsBroughtBy s kind (Accepted.Routes routes) = kind ≡ EventKind.Routes routes
+IsBroughtBy s kind (Accepted.Rps ranges) =
+    (table : Option (Box RouteTable Global)) → IsTableOf s kind table → Brings (Accepted.Rps ranges) table
+IsBroughtBy s kind _ = Unit {0}
 
 module _ (s : State) (whole : EventKind) where
   abbrev Fits : Judged → Type 0
-  Fits = FitsTo (λ a. IsConfigured s a × IsBroughtBy whole a)
+  Fits = FitsTo (λ a. IsConfigured s a × IsBroughtBy s whole a)
 
   -- ---- a frame on an interface of the router
 
@@ -113,7 +114,7 @@ module _ (s : State) (whole : EventKind) where
 
 module _ (s : State) where
   any : (kind : EventKind) → Fits s kind (judged s kind)
-  unfolding judged up_judged down_judged advance_judged routes_judged rps_judged
+  unfolding judged up_judged down_judged advance_judged routes_judged rps_judged candidates_judged
   any (EventKind.Advance moment) =
       refusing (nat_lt moment s.present) Refusal.MomentBack
       (refuse_if (nat_lt last_moment moment) Refusal.MomentFar >> Ok (Accepted.Advance moment))
@@ -133,23 +134,28 @@ module _ (s : State) where
       refusing (not (are_routes s.configured routes)) Refusal.BadRoutes (Ok (Accepted.Routes routes))
       (λ e. record { says = (tt, refl) })
   any (EventKind.Rps ranges) =
-      refusing (not (are_rps ranges)) Refusal.BadRps (Ok (Accepted.Rps ranges)) (λ e. record { says = (tt, refl) })
+      refusing (not (are_rps ranges)) Refusal.BadRps (Ok (Accepted.Rps (with_ranges s.ranges ranges)))
+      (λ e. record { says = (tt, λ table of. of) })
+  any (EventKind.RpCandidates candidates) =
+      refusing (not (are_candidates candidates)) Refusal.BadCandidates
+      (Ok (Accepted.Rps (with_candidates s.ranges candidates)))
+      (λ e. record { says = (tt, λ table of. of) })
 
   accepted_of : (kind : EventKind) (j : Judged) (a : Accepted) → j ≡ judged s kind → j ≡ Ok a
-      → IsConfigured s a × IsBroughtBy kind a
+      → IsConfigured s a × IsBroughtBy s kind a
   accepted_of kind j a e f =
-      subst (λ (x : Judged). Says (λ a. IsConfigured s a × IsBroughtBy kind a) x) (sym e ∙ f) (any kind).says
+      subst (λ (x : Judged). Says (λ a. IsConfigured s a × IsBroughtBy s kind a) x) (sym e ∙ f) (any kind).says
 
   pub configured : (kind : EventKind) (j : Judged) (a : Accepted) → j ≡ judged s kind → j ≡ Ok a → IsConfigured s a
   configured kind j a e f = (accepted_of kind j a e f).0
 
-  of_event : (kind : EventKind) (a : Accepted) (table : Option (Box RouteTable Global)) → IsBroughtBy kind a → IsTableOf kind table
+  of_event : (kind : EventKind) (a : Accepted) (table : Option (Box RouteTable Global)) → IsBroughtBy s kind a → IsTableOf s kind table
       → Brings a table
-  of_event kind (Accepted.Routes routes) table is of = subst (λ (k : EventKind). IsTableOf k table) is of
-  of_event kind (Accepted.Rps ranges) table is of = subst (λ (k : EventKind). IsTableOf k table) is of
+  of_event kind (Accepted.Routes routes) table is of = subst (λ (k : EventKind). IsTableOf s k table) is of
+  of_event kind (Accepted.Rps ranges) table is of = is table of
   of_event kind a table is of = tt
 
-  pub brings : (kind : EventKind) (a : Accepted) (table : Option (Box RouteTable Global)) → judged s kind ≡ Ok a → IsTableOf kind table
+  pub brings : (kind : EventKind) (a : Accepted) (table : Option (Box RouteTable Global)) → judged s kind ≡ Ok a → IsTableOf s kind table
       → Brings a table
   brings kind a table heard of = of_event kind a table (accepted_of kind (judged s kind) a refl heard).1 of
 

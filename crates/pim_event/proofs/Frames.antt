@@ -3,7 +3,7 @@ use Rattle.std.{proofs.Common.{◌≡◌, ℕ, Bool, true, false, not, ◌==◌,
 use Rattle.pim_ip.{specs.{Addr.addr, Ipv4.{Packet, ipv4_reading, is_link_local, protocol_pim}, declared.refusal.Refusal.Refusal}}
 use Rattle.pim_types.{specs.declared.{config.IfaceId.IfaceId, event.EventKind.EventKind, outcome.{Ignored.Ignored, Stop.Stop}}}
 use Rattle.pim_wire.{specs.{Messages.pim_reading, RegisterParts.registered_group, declared.view.PimView.PimView}}
-use Rattle.pim_model.{specs.{declared.accepted.Accepted.Accepted, Judging.{Judged, advance_judged, down_judged, ignore_if, judged, last_moment, pim_to_me_judged, refuse_if, register_judged, register_stop_judged, routes_judged, rps_judged, unicast_judged, unicast_packet_judged, up_judged, ◌>>◌}, Limits.{are_routes, are_rps}, State.{State, iface_count, is_own, is_up}, Unicast.is_rp}}
+use Rattle.pim_model.{specs.{declared.accepted.Accepted.Accepted, Judging.{Judged, advance_judged, down_judged, ignore_if, judged, last_moment, pim_to_me_judged, refuse_if, register_judged, register_stop_judged, routes_judged, candidates_judged, rps_judged, unicast_judged, unicast_packet_judged, up_judged, ◌>>◌}, Limits.{are_routes, are_rps, are_candidates}, State.{State, iface_count, is_own, is_up}, Unicast.{is_rp, with_candidates, with_ranges}}}
 use Rattle.pim_intake.{specs.Memory.is_frame}
 use Rattle.pim_event.{proofs.Judgements.{FitsTo, Says, choosing, ignoring, reading, refusing, two}}
 
@@ -39,7 +39,7 @@ module _ (s : State) where
       (record { says = tt }))
 
   other : (kind : EventKind) → is_frame kind ≡ false → Fits (judged s kind)
-  unfolding judged up_judged down_judged advance_judged routes_judged rps_judged
+  unfolding judged up_judged down_judged advance_judged routes_judged rps_judged candidates_judged
   other (EventKind.Advance moment) e =
       refusing (nat_lt moment s.present) Refusal.MomentBack
       (refuse_if (nat_lt last_moment moment) Refusal.MomentFar >> Ok (Accepted.Advance moment))
@@ -57,7 +57,11 @@ module _ (s : State) where
       refusing (not (are_routes s.configured routes)) Refusal.BadRoutes (Ok (Accepted.Routes routes))
       (λ _. record { says = tt })
   other (EventKind.Rps ranges) e =
-      refusing (not (are_rps ranges)) Refusal.BadRps (Ok (Accepted.Rps ranges)) (λ _. record { says = tt })
+      refusing (not (are_rps ranges)) Refusal.BadRps (Ok (Accepted.Rps (with_ranges s.ranges ranges)))
+      (λ _. record { says = tt })
+  other (EventKind.RpCandidates candidates) e =
+      refusing (not (are_candidates candidates)) Refusal.BadCandidates
+      (Ok (Accepted.Rps (with_candidates s.ranges candidates))) (λ _. record { says = tt })
 
   pub data_is_frame : (kind : EventKind) (i : IfaceId) (p : Packet) → judged s kind ≡ Ok (Accepted.Data i p)
       → is_frame kind ≡ true

@@ -35,12 +35,12 @@ pub frame_brings : (s : State) (kind : EventKind) (i : IfaceId) (bytes : List �
     → IfOk j (λ a. let none : Option (Box RouteTable Global) = None in Brings a none)
 frame_brings s kind i bytes (Ok a) is heard =
     let none : Option (Box RouteTable Global) = None in
-    brings s kind a none (sym heard) (subst (λ (x : EventKind). IsTableOf x none) (sym is) tt)
+    brings s kind a none (sym heard) (subst (λ (x : EventKind). IsTableOf s x none) (sym is) tt)
 frame_brings s kind i bytes (Err stop) is heard = tt
 
 -- what was accepted brings its table
 pub brings_where : (s : State) (kind : EventKind) (table : Option (Box RouteTable Global)) (j : Judged) → j ≡ judged s kind
-    → IfOk j (λ a. IsTableOf kind table) → IfOk j (λ a. Brings a table)
+    → IfOk j (λ a. IsTableOf s kind table) → IfOk j (λ a. Brings a table)
 brings_where s kind table (Ok a) heard of = brings s kind a table (sym heard) of
 brings_where s kind table (Err stop) heard of = tt
 

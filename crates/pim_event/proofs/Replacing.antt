@@ -1,35 +1,35 @@
 -- What an event replaced of routes and RP ranges, in turn; and that of all sources the same is offered but of those of
 -- which the offer may differ.
 use Rattle.std.{specs.{Prelude.{if◌then◌else◌, option_and_then}, Cmp.Derive.both_true}, proofs.Common.{◌≡◌, ◌≤◌, ◌&&◌, ◌||◌, ℕ, Bool, true, false, not, Option, List, Result, Ok, Err, OnOk, length, refl, ap, subst, sym, ◌∙◌}}
-use Rattle.pim_types.{specs.declared.{config.{Route.Route, RpRange.RpRange}, event.Event.Event}}
+use Rattle.pim_types.{specs.declared.{config.{Route.Route, RpTable.RpTable}, event.Event.Event}}
 use Rattle.pim_model.{specs.{declared.accepted.Accepted.Accepted, Full.{is_full, passes_limit}, Judging.{Judged, judged}, Rows.{same_both, same_path}, State.State, Step.{change, concluded, done, rps_replaced, step, taken, taken_unless_full}, Tables.{same_bool, same_option}, Unicast.{route, rp_among, rp_of, rp_route}}}
 use Rattle.law_events.{specs.{Rest.IsAtRest, Named.{has_same_routes, has_same_rp}}, proofs.{SameRows.flags, NamedSameRows.{not_false, options}, Sights.paths_same}}
 use Rattle.pim_state.{specs.declared.touched.Touched.Touched}
 use Rattle.law_plane.{specs.{Offered.offered, Staying.{OffersAlike, SourceStays}}, proofs.Staying.offer_stays}
 use Rattle.pim_rerouted.{specs.OtherRoutes.{group_has_other_rp, has_other_route, with_routes}}
-use Rattle.pim_event.{specs.{Replacing.{NoneReplaced, RangesReplaced, Replaced, RoutesReplaced, differs_by, event_replaced, may_differ, replaced_after, replaced_where, with_ranges}, Staying.{OffersStay, UntouchedOffersStay}}, proofs.Rerouting.{same_routes_stay, same_rps_stay}}
+use Rattle.pim_event.{specs.{Replacing.{NoneReplaced, RangesReplaced, Replaced, RoutesReplaced, differs_by, event_replaced, may_differ, replaced_after, replaced_where, with_table}, Staying.{OffersStay, UntouchedOffersStay}}, proofs.Rerouting.{same_routes_stay, same_rps_stay}}
 
 -- ---- other routes by a table
 
 -- with other RP ranges the route to each address is the same
-module _ (s : State) (ranges : List RpRange) where
-  route_there : (address : ℕ) → route (with_ranges s ranges) address ≡ route s address
+module _ (s : State) (ranges : RpTable) where
+  route_there : (address : ℕ) → route (with_table s ranges) address ≡ route s address
   unfolding route
   route_there address = refl
 
-  way_there : (rp : Option ℕ) → option_and_then (route (with_ranges s ranges)) rp ≡ option_and_then (route s) rp
+  way_there : (rp : Option ℕ) → option_and_then (route (with_table s ranges)) rp ≡ option_and_then (route s) rp
   way_there rp = λ j. option_and_then (λ a. route_there a j) rp
 
   same_by_rp : (src : ℕ) (a b : Option ℕ) (is : Bool) → same_option a b ≡ is
-      → ((is && same_both same_path (option_and_then (route s) a) (option_and_then (route (with_ranges s ranges)) b))
-      && same_both same_path (route s src) (route (with_ranges s ranges) src)) ≡ is
+      → ((is && same_both same_path (option_and_then (route s) a) (option_and_then (route (with_table s ranges)) b))
+      && same_both same_path (route s src) (route (with_table s ranges) src)) ≡ is
   same_by_rp src a b true e =
       both_true (both_true refl (paths_same _ _ (ap (option_and_then (route s)) (options a b e) ∙ sym (way_there b))))
       (paths_same _ _ (sym (route_there src)))
   same_by_rp src a b false e = refl
 
   pub other_by_ranges : (g src : ℕ)
-      → group_has_other_rp s (rps_replaced s ranges) g ≡ not (has_same_routes g src s (with_ranges s ranges))
+      → group_has_other_rp s (rps_replaced s ranges) g ≡ not (has_same_routes g src s (with_table s ranges))
   unfolding has_same_routes has_same_rp rp_route rp_of rps_replaced
   other_by_ranges g src =
       ap not (sym (same_by_rp src (rp_among s.ranges g) (rp_among ranges g)
@@ -117,9 +117,9 @@ routes_case s (Ok (Accepted.Routes routes)) true before X is next = next routes 
 routes_case s (Ok (Accepted.Rps ranges)) true before X is next = cc
 routes_case s (Ok a) true before X is next = cc
 
-ranges_case : (s : State) (j : Judged) (room : Bool) (before : List RpRange) (X : Type 0)
+ranges_case : (s : State) (j : Judged) (room : Bool) (before : RpTable) (X : Type 0)
     → RangesReplaced before ≡ (if room then replaced_where s j else NoneReplaced)
-    → ((ranges : List RpRange) → j ≡ Ok (Accepted.Rps ranges) → room ≡ true → before ≡ s.ranges → X) → X
+    → ((ranges : RpTable) → j ≡ Ok (Accepted.Rps ranges) → room ≡ true → before ≡ s.ranges → X) → X
 ranges_case s j false before X is next = cc
 ranges_case s (Err stop) true before X is next = cc
 ranges_case s (Ok (Accepted.Routes routes)) true before X is next = cc
@@ -132,7 +132,7 @@ module _ (s : State) (e : Event) where
   unfolding step taken_unless_full taken is_full
   routes_done routes heard = ap (λ (j : Judged). (concluded s (taken_unless_full s e.draw) j).state) heard
 
-  rps_done : (ranges : List RpRange) → judged s e.kind ≡ Ok (Accepted.Rps ranges)
+  rps_done : (ranges : RpTable) → judged s e.kind ≡ Ok (Accepted.Rps ranges)
       → (step s e).state ≡ (done s e.draw (change s e.draw (Accepted.Rps ranges))).state
   unfolding step taken_unless_full taken is_full
   rps_done ranges heard = ap (λ (j : Judged). (concluded s (taken_unless_full s e.draw) j).state) heard
@@ -159,8 +159,8 @@ module _ (s : State) (e : Event) where
         (subst (λ (u : State). SourceStays g src s u) (sym ends)
         (same_routes_stay s rest.quiet few e.draw g src routes there)) (room_stays room))
 
-    ranges_offer : (before : List RpRange) → RangesReplaced before ≡ event_replaced s e
-        → has_same_routes g src t (with_ranges t before) ≡ true → OffersAlike (offered s g src) (offered t g src)
+    ranges_offer : (before : RpTable) → RangesReplaced before ≡ event_replaced s e
+        → has_same_routes g src t (with_table t before) ≡ true → OffersAlike (offered s g src) (offered t g src)
     unfolding event_replaced
     ranges_offer before replaces calm =
         ranges_case s (judged s e.kind) (same_bool (passes_limit s 1) (passes_limit (step s e).state 1)) before
@@ -168,8 +168,8 @@ module _ (s : State) (e : Event) where
         (λ ranges heard room same.
         let end : State = (done s e.draw (change s e.draw (Accepted.Rps ranges))).state in
         let ends : t ≡ end = is ∙ rps_done ranges heard in
-        let there : has_same_routes g src end (with_ranges end s.ranges) ≡ true =
-        (λ j. has_same_routes g src (sym ends j) (with_ranges (sym ends j) (sym same j))) ∙ calm in
+        let there : has_same_routes g src end (with_table end s.ranges) ≡ true =
+        (λ j. has_same_routes g src (sym ends j) (with_table (sym ends j) (sym same j))) ∙ calm in
         offer_stays s t g src
         (subst (λ (u : State). SourceStays g src s u) (sym ends)
         (same_rps_stay s rest.quiet few e.draw g src ranges there)) (room_stays room))

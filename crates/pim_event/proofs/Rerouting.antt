@@ -1,7 +1,7 @@
 -- Where new routes or RP ranges leave a source with the routes that it has by those which they replaced, the source
 -- stays: what follows of the change moves no route.
 use Rattle.std.{proofs.Common.{◌≡◌, ◌≤◌, ◌&&◌, ℕ, true, false, List, [], length, refl, sym, ap, ◌∙◌}, specs.{Cmp.{first_so, second_so, Derive.both_true}, Prelude.option_and_then}}
-use Rattle.pim_types.{specs.{declared.config.{Route.Route, RpRange.RpRange}, Keys.source_key}}
+use Rattle.pim_types.{specs.{declared.config.{Route.Route, RpTable.RpTable}, Keys.source_key}}
 use Rattle.pim_model.{specs.{declared.accepted.Accepted.Accepted, Clearing.clear, Firing.settled, Messages.Message, Rows.{same_both, same_path}, State.State, Step.{change, done, rps_replaced}, Tables.same_option, Unicast.{route, route_among, rp_among, rp_of, rp_route}, Upstream.upstream}}
 use Rattle.law_settled.{proofs.Unsettled.{Unsettled, settling_leaves}}
 use Rattle.law_events.{specs.{Locality.{AgreesBut, IsQuiet, touching}, Scopes.{reads, scope}, Moved.IsRerouted, Named.{has_same_routes, has_same_rp, is_source_named}}, proofs.{QuietStates.{frame_packets, frame_upstream}, SharedMacros.route_local, Touches.agrees_then, Reached.{Keeps, clearing_keeps}, Rerouted.{around_rerouted, rerouted_beside, rerouted_unnamed, routes_reroute, rps_reroute}, NamedSameRows.{options, paths}, Sights.{options_same, paths_same}}}
@@ -22,7 +22,7 @@ turned s t g src e =
     (paths_same (route t src) (route s src) (sym (paths (route s src) (route t src) source)))
 
 -- the state with these routes and RP ranges
-abbrev placed : List Route → List RpRange → State → State
+abbrev placed : List Route → RpTable → State → State
 placed routes ranges s = record s { routes = routes; ranges = ranges }
 
 module _ (o c : State) (is : IsRerouted o c) (up : c.interfaces ≡ o.interfaces) (messages : List Message) (w : ℕ) where
@@ -41,7 +41,7 @@ module _ (o c : State) (is : IsRerouted o c) (up : c.interfaces ≡ o.interfaces
   kept : Keeps c after
   kept = clearing_keeps o c
 
-  placed_after : (routes : List Route) (ranges : List RpRange) (a : ℕ)
+  placed_after : (routes : List Route) (ranges : RpTable) (a : ℕ)
       → route (placed routes ranges after) a ≡ route (placed routes ranges o) a
   unfolding route
   placed_after routes ranges a =
@@ -50,7 +50,7 @@ module _ (o c : State) (is : IsRerouted o c) (up : c.interfaces ≡ o.interfaces
       let interfaces : after.interfaces ≡ o.interfaces = sym kept.interfaces ∙ up in
       λ j. route_among (configured j) (interfaces j) routes a
 
-  placed_route : (routes : List Route) (ranges : List RpRange) (a : ℕ)
+  placed_route : (routes : List Route) (ranges : RpTable) (a : ℕ)
       → route (placed routes ranges end) a ≡ route (placed routes ranges o) a
   unfolding scope touching
   placed_route routes ranges a =
@@ -58,12 +58,12 @@ module _ (o c : State) (is : IsRerouted o c) (up : c.interfaces ≡ o.interfaces
       ∙ (ap (λ (u : State). route (placed routes ranges u) a) (sym (agrees_in_the_end (source_key 0 0 0) refl))
       ∙ (route_local (reads (source_key 0 0 0)) (placed routes ranges after) a ∙ placed_after routes ranges a))
 
-  placed_rp_route : (routes : List Route) (ranges : List RpRange) (g : ℕ)
+  placed_rp_route : (routes : List Route) (ranges : RpTable) (g : ℕ)
       → rp_route (placed routes ranges end) g ≡ rp_route (placed routes ranges o) g
   unfolding rp_route rp_of
   placed_rp_route routes ranges g = λ j. option_and_then (λ a. placed_route routes ranges a j) (rp_among ranges g)
 
-  same_placed : (routes others : List Route) (ranges more : List RpRange) (g src : ℕ)
+  same_placed : (routes others : List Route) (ranges more : RpTable) (g src : ℕ)
       → has_same_routes g src (placed routes ranges end) (placed others more end)
       ≡ has_same_routes g src (placed routes ranges o) (placed others more o)
   unfolding has_same_routes has_same_rp rp_of
@@ -79,7 +79,7 @@ module _ (o c : State) (is : IsRerouted o c) (up : c.interfaces ≡ o.interfaces
   ranges_end = ap (λ (u : Unsettled). u.ranges) (settling_leaves o (c, messages) w)
 
   -- what the source has by the routes and ranges in the end, and by others, are those at the opening
-  same_at_opening : (others : List Route) (more : List RpRange) (g src : ℕ)
+  same_at_opening : (others : List Route) (more : RpTable) (g src : ℕ)
       → has_same_routes g src end (placed others more end)
       ≡ has_same_routes g src (placed c.routes c.ranges o) (placed others more o)
   same_at_opening others more g src =
@@ -122,13 +122,13 @@ module _ (s : State) (quiet : IsQuiet s) (few : length s.configured.interfaces �
       let is : IsRerouted s c = routes_reroute s w routes in
       let end : State = (settled s (c, []) w).0 in
       let calm : has_same_routes g src end (placed s.routes s.ranges end) ≡ true =
-      ap (λ (ranges : List RpRange). has_same_routes g src end (placed s.routes ranges end))
+      ap (λ (ranges : RpTable). has_same_routes g src end (placed s.routes ranges end))
       (sym (ranges_end s c is refl [] w))
       ∙ same in
       unnamed_source_stays s w (Accepted.Routes routes) few g src
       (unnamed_where_same s c is refl [] w quiet g src (same_after_change s c is refl [] w g src calm))
 
-  pub same_rps_stay : (ranges : List RpRange)
+  pub same_rps_stay : (ranges : RpTable)
       → (let end : State = (done s w (change s w (Accepted.Rps ranges))).state in
       has_same_routes g src end (record end { ranges = s.ranges }) ≡ true → SourceStays g src s end)
   unfolding done change rps_replaced

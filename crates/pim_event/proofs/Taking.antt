@@ -1,8 +1,8 @@
 -- What was accepted, where there is room for it.
 use Rattle.std.{proofs.Common.{◌≡◌, ℕ, Bool, true, false, not, length, Result, Ok, Err, IsOk, IsTrue, List, [], ◌++◌, OnOk, refl, ap, subst, sym, ◌∙◌}}
 use Rattle.pim_ip.{specs.declared.refusal.Refusal.Refusal}
-use Rattle.pim_types.{specs.declared.{outcome.{Emission.Emission, Outcome.Outcome, Stop.Stop, Verdict.Verdict}, config.{Route.Route, RpRange.RpRange}, event.{Event.Event, EventKind.EventKind}}}
-use Rattle.pim_model.{specs.{declared.accepted.Accepted.Accepted, Judging.{Judged, judged, refuse_if, routes_judged, rps_judged, ◌>>◌}, Limits.{are_routes, are_rps}, Messages.Message, State.State, Full.is_full, Step.{Answered, Change, change, concluded, done, outcome_of, advanced, step, stopped, taken, taken_unless_full}, Sure.needs_no_memory}}
+use Rattle.pim_types.{specs.declared.{outcome.{Emission.Emission, Outcome.Outcome, Stop.Stop, Verdict.Verdict}, config.{Route.Route, RpTable.RpTable}, event.{Event.Event, EventKind.EventKind}}}
+use Rattle.pim_model.{specs.{declared.accepted.Accepted.Accepted, Judging.{Judged, judged, refuse_if, routes_judged, candidates_judged, rps_judged, ◌>>◌}, Limits.{are_routes, are_rps, are_candidates}, Messages.Message, State.State, Full.is_full, Step.{Answered, Change, change, concluded, done, outcome_of, advanced, step, stopped, taken, taken_unless_full}, Sure.{is_early, needs_no_memory}, Unicast.{with_candidates, with_ranges}}}
 use Rattle.pim_state.{specs.{Turns.Taking, declared.touched.Touched.Touched}}
 use Rattle.pim_intake.{specs.Memory.is_tested_in_memory}
 use Rattle.pim_views.{specs.{Openings.opening_of, declared.opening.GroupOpening.GroupOpening}}
@@ -143,7 +143,7 @@ accepted_unsurely s event j a r is ok sure =
     (subst (λ (x : Judged). IsTrue (needs_no_memory (concluded s (taken_unless_full s event.draw) x).answer))
     (sym is ∙ ok) sure)
 
--- routes and RP ranges are tested in memory, and no answer to them is sure
+-- routes, RP ranges and candidates are tested in memory, and no answer to them is sure
 no_routes : (s : State) (w : ℕ) (routes : List Route) (bad : Bool)
     → needs_no_memory
     (concluded s (taken_unless_full s w) (refuse_if bad Refusal.BadRoutes >> Ok (Accepted.Routes routes))).answer ≡ false
@@ -151,17 +151,17 @@ unfolding taken_unless_full
 no_routes s w routes true = refl
 no_routes s w routes false = full_or_taken s w (Accepted.Routes routes) (is_full s (Accepted.Routes routes))
 
-no_ranges : (s : State) (w : ℕ) (ranges : List RpRange) (bad : Bool)
+no_ranges : (s : State) (w : ℕ) (ranges : RpTable) (refusal : Refusal) (bad : Bool) → is_early refusal ≡ false
     → needs_no_memory
-    (concluded s (taken_unless_full s w) (refuse_if bad Refusal.BadRps >> Ok (Accepted.Rps ranges))).answer ≡ false
+    (concluded s (taken_unless_full s w) (refuse_if bad refusal >> Ok (Accepted.Rps ranges))).answer ≡ false
 unfolding taken_unless_full
-no_ranges s w ranges true = refl
-no_ranges s w ranges false = full_or_taken s w (Accepted.Rps ranges) (is_full s (Accepted.Rps ranges))
+no_ranges s w ranges refusal true late = late
+no_ranges s w ranges refusal false late = full_or_taken s w (Accepted.Rps ranges) (is_full s (Accepted.Rps ranges))
 
 tested_surely : (s : State) (w : ℕ) (kind : EventKind) (sure : Bool)
     → sure ≡ needs_no_memory (concluded s (taken_unless_full s w) (judged s kind)).answer → sure ≡ true
     → is_tested_in_memory kind ≡ false
-unfolding judged routes_judged rps_judged
+unfolding judged routes_judged rps_judged candidates_judged
 tested_surely s w (EventKind.Advance moment) sure e t = refl
 tested_surely s w (EventKind.Frame i bytes) sure e t = refl
 tested_surely s w (EventKind.Unicast bytes) sure e t = refl
@@ -169,7 +169,10 @@ tested_surely s w (EventKind.Up i) sure e t = refl
 tested_surely s w (EventKind.Down i) sure e t = refl
 tested_surely s w (EventKind.Routes routes) sure e t =
     cc (e, t, no_routes s w routes (not (are_routes s.configured routes)))
-tested_surely s w (EventKind.Rps ranges) sure e t = cc (e, t, no_ranges s w ranges (not (are_rps ranges)))
+tested_surely s w (EventKind.Rps ranges) sure e t =
+    cc (e, t, no_ranges s w (with_ranges s.ranges ranges) Refusal.BadRps (not (are_rps ranges)) refl)
+tested_surely s w (EventKind.RpCandidates candidates) sure e t =
+    cc (e, t, no_ranges s w (with_candidates s.ranges candidates) Refusal.BadCandidates (not (are_candidates candidates)) refl)
 
 pub fails_unsurely : {A B E : Type 0} (s : State) (event : Event) (r : Result A E) (q : Result B E) (fault : E)
     → (is_tested_in_memory event.kind ≡ false → IsOk r) → r ≡ Err fault

@@ -1,7 +1,7 @@
 -- What an event replaced of routes and RP ranges, and of which sources the offer may differ by that: where nothing was
 -- replaced, of those that are touched; else of those that have other routes by what was replaced.
 use Rattle.std.{specs.Prelude.{Bool, Err, List, Ok, if◌then◌else◌, not, ℕ}}
-use Rattle.pim_types.{specs.declared.{config.{Route.Route, RpRange.RpRange}, event.Event.Event}}
+use Rattle.pim_types.{specs.declared.{config.{Route.Route, RpTable.RpTable}, event.Event.Event}}
 use Rattle.pim_model.{specs.{declared.accepted.Accepted.Accepted, Full.passes_limit, Judging.{Judged, judged}, State.State, Step.step, Tables.same_bool}}
 use Rattle.law_events.{specs.Named.has_same_routes}
 use Rattle.pim_state.{specs.declared.touched.Touched.Touched}
@@ -13,7 +13,7 @@ use Rattle.pim_rerouted.{specs.OtherRoutes.with_routes}
 pub data Replaced : Type 0 where
   NoneReplaced : Replaced
   RoutesReplaced : List Route → Replaced
-  RangesReplaced : List RpRange → Replaced
+  RangesReplaced : RpTable → Replaced
 
 -- What is kept of them in a table.
 abbrev pub replaced_in : Kept → Replaced
@@ -28,15 +28,15 @@ pub record Disturbance : Type 0 where
 
 -- ---- which sources
 
-abbrev pub with_ranges : State → List RpRange → State
-with_ranges s ranges = record s { ranges = ranges }
+abbrev pub with_table : State → RpTable → State
+with_table s ranges = record s { ranges = ranges }
 
 -- In the present state a source is one of those of which the offer may differ. Where routes or RP ranges were replaced
 -- these are the sources for which RP(G), the route to it or the route to S is another one by what was replaced.
 unfoldable pub differs_by : Replaced → Touched → State → ℕ → ℕ → Bool
 differs_by NoneReplaced touched t g src = is_disturbed touched g src
 differs_by (RoutesReplaced routes) touched t g src = not (has_same_routes g src t (with_routes t routes))
-differs_by (RangesReplaced ranges) touched t g src = not (has_same_routes g src t (with_ranges t ranges))
+differs_by (RangesReplaced ranges) touched t g src = not (has_same_routes g src t (with_table t ranges))
 
 unfoldable pub may_differ : Disturbance → State → ℕ → ℕ → Bool
 may_differ d t g src = differs_by d.replaced d.touched t g src

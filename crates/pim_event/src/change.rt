@@ -90,7 +90,7 @@ fn take_routes(world: &mut World, replaced: &mut Replaced, next: Mrib)
     replaced.keep_routes(before);
 }
 
-// Replaces the RP ranges by those of the table, and keeps those that were replaced. If they are the same, no RP is
+// Replaces the RP ranges and candidates by those of the table, and keeps those that were replaced. If they are the same, no RP is
 // looked up.
 fn take_ranges(
     world: &mut World,
@@ -103,7 +103,7 @@ fn take_ranges(
     ensures replaced { OnOk result (replaced.new ≡ RangesReplaced world.old.ranges) }
     ensures silent { turn.new ≡ turn.old }
 {
-    if world.has_ranges(next.ranges()) {
+    if world.has_ranges_of(&next) {
         replaced.keep_ranges(next);
         return Ok(());
     }

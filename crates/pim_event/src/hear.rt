@@ -93,6 +93,7 @@ pub(crate) fn hear<'a, W: PlainWorld, R: CountedRows>(
             Some(forward) => Heard::Plain { packet, forward },
             None => Heard::Other(Ok(Accepted::Data { iface, packet })),
         },
-        judgement => Heard::Other(judgement),
+        Ok(other) => Heard::Other(Ok(other)),
+        Err(stop) => Heard::Other(Err(stop)),
     }
 }

@@ -1,7 +1,7 @@
 //! The routes or the RP ranges that an event replaced. Their table is kept until the next event: by it is told of which
 //! sources the routes are others.
 ghost use Rattle.law_events.specs.Named.{has_same_routes};
-ghost use Rattle.pim_event.specs.Replacing.{NoneReplaced, RangesReplaced, RoutesReplaced, may_differ, with_ranges};
+ghost use Rattle.pim_event.specs.Replacing.{NoneReplaced, RangesReplaced, RoutesReplaced, may_differ, with_table};
 ghost use Rattle.pim_rerouted.specs.OtherRoutes.{with_routes};
 ghost use Rattle.std.specs.Prelude.{◌≡◌, if◌then◌else◌, not};
 
@@ -49,7 +49,7 @@ fn has_other_by_routes(world: &World, meter: &mut Meter, routes: &Mrib, name: So
 // Whether RP(G) or the route to it is another one by these RP ranges. The route to S isn't.
 fn has_other_by_ranges(world: &World, meter: &mut Meter, ranges: &Mrib, name: SourceGroup) -> bool
     ensures { result ≡ not (has_same_routes name.group.bits name.source.bits world.now
-        (with_ranges world.now ranges.now.ranges)) }
+        (with_table world.now ranges.now.ranges)) }
 {
     group_has_other_rp(world, meter, ranges, name.group)
 }

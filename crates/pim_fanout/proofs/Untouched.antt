@@ -1,7 +1,7 @@
 -- A source that a change doesn't touch isn't named, whether it has a fact or not, where routes and RP ranges are as
 -- they were.
 use Rattle.std.{proofs.Common.{◌≡◌, ℕ, List, false, inl, inr, map, true, sym, ap, ◌∙◌}, specs.{Cmp.Derive.both_true, Prelude.option_and_then}}
-use Rattle.pim_types.{specs.declared.config.{Route.Route, RpRange.RpRange}}
+use Rattle.pim_types.{specs.declared.config.{Route.Route, RpTable.RpTable}}
 use Rattle.pim_model.{specs.{Clearing.clear, State.State, Unicast.{route, route_among, rp_among, rp_of, rp_route}}}
 use Rattle.law_events.{specs.{Locality.IsQuiet, Moved.IsRerouted, Named.{has_same_routes, has_same_rp, is_source_named}, Scopes.only_up}, proofs.{Configured.ups, Rerouted.{around_rerouted, rerouted_beside, rerouted_unnamed}, SharedMacros.route_cut, Sights.{options_same, paths_same}, Touched.touched_names}}
 use Rattle.pim_state.{specs.declared.touched.Touched.Touched}
@@ -18,7 +18,7 @@ module _ (o c : State) (is : IsRerouted o c) (routes : o.routes ≡ c.routes) (r
 
   rp_same : (g : ℕ) → rp_of o g ≡ rp_of c g
   unfolding rp_of
-  rp_same g = ap (λ (rs : List RpRange). rp_among rs g) ranges
+  rp_same g = ap (λ (rs : RpTable). rp_among rs g) ranges
 
   rp_route_same : (g : ℕ) → rp_route o g ≡ rp_route c g
   unfolding rp_route

@@ -4,7 +4,7 @@ use Rattle.pim_ip.{specs.{Addr.addr, Ipv4.{Packet, all_pim_routers, frame_limit,
 use Rattle.igmp_wire.{specs.{Messages.igmp_reading, declared.view.IgmpView.IgmpView}}
 use Rattle.pim_types.{specs.declared.{config.IfaceId.IfaceId, event.{Event.Event, EventKind.EventKind}, outcome.{Emission.Emission, Ignored.Ignored, Stop.Stop, Verdict.Verdict}}}
 use Rattle.pim_wire.{specs.{Messages.pim_reading, RegisterParts.registered_group, Values.{Register, Encapsulated, Null}, declared.view.PimView.PimView}}
-use Rattle.pim_model.{specs.{Cause.{done_as, if_done, packet_in}, Hellos.hello_holdtime_of, Judging.{Judged, last_moment, data_judged, frame_judged, igmp_judged, igmp_message_judged, ignore_if, judged, packet_judged, pim_judged, pim_message_judged, pim_to_me_judged, refuse_if, register_judged, register_stop_judged, unicast_judged, unicast_packet_judged, hello_judged, join_prune_judged, assert_judged, of_read, up_judged, down_judged, advance_judged, routes_judged, rps_judged, ◌>>◌}, Limits.{are_routes, are_rps}, Neighbours.is_neighbour, State.{State, iface_count, is_own, is_up, my_address}, Step.step, Unicast.is_rp, declared.accepted.Accepted.Accepted}}
+use Rattle.pim_model.{specs.{Cause.{done_as, if_done, packet_in}, Hellos.hello_holdtime_of, Judging.{Judged, last_moment, data_judged, frame_judged, igmp_judged, igmp_message_judged, ignore_if, judged, packet_judged, pim_judged, pim_message_judged, pim_to_me_judged, refuse_if, register_judged, register_stop_judged, unicast_judged, unicast_packet_judged, hello_judged, join_prune_judged, assert_judged, of_read, up_judged, down_judged, advance_judged, routes_judged, candidates_judged, rps_judged, ◌>>◌}, Limits.{are_candidates, are_routes, are_rps}, Neighbours.is_neighbour, State.{State, iface_count, is_own, is_up, my_address}, Step.step, Unicast.{is_rp, with_candidates, with_ranges}, declared.accepted.Accepted.Accepted}}
 use Rattle.law_streams.{specs.Copies.{IsLower, happens}, proofs.Copies.ttl_falls}
 use Rattle.pim_guard.{specs.{Guard.{brings_control, guarded, guarded_if, is_control, is_forwarded_pim, is_frame_stopped, is_kind_stopped, is_link_reading_stopped, is_message_stopped, is_packet_stopped, is_reading_stopped, is_unicast_stopped}, Laws.{GuardedCopiesAreData, IsOfData, WithoutGuardNothingChanges}}}
 
@@ -201,7 +201,7 @@ module _ (s : State) where
       (unless_ignored already Ignored.Already (Ok told) (accepted_none told none)))
 
   kind_plain : (kind : EventKind) → is_kind_stopped kind ≡ false → IsPlain (judged s kind)
-  unfolding judged advance_judged up_judged down_judged routes_judged rps_judged
+  unfolding judged advance_judged up_judged down_judged routes_judged rps_judged candidates_judged
   kind_plain (EventKind.Frame i b) passed = frame_plain s i b passed
   kind_plain (EventKind.Unicast b) passed = unicast_plain s b passed
   kind_plain (EventKind.Advance moment) passed =
@@ -219,9 +219,13 @@ module _ (s : State) where
       none_plain (refuse_if (not (are_routes s.configured routes)) Refusal.BadRoutes >> Ok told)
       (unless_refused (not (are_routes s.configured routes)) Refusal.BadRoutes (Ok told) (accepted_none told refl))
   kind_plain (EventKind.Rps rps) passed =
-      let told : Accepted = Accepted.Rps rps in
+      let told : Accepted = Accepted.Rps (with_ranges s.ranges rps) in
       none_plain (refuse_if (not (are_rps rps)) Refusal.BadRps >> Ok told)
       (unless_refused (not (are_rps rps)) Refusal.BadRps (Ok told) (accepted_none told refl))
+  kind_plain (EventKind.RpCandidates candidates) passed =
+      let told : Accepted = Accepted.Rps (with_candidates s.ranges candidates) in
+      none_plain (refuse_if (not (are_candidates candidates)) Refusal.BadCandidates >> Ok told)
+      (unless_refused (not (are_candidates candidates)) Refusal.BadCandidates (Ok told) (accepted_none told refl))
 
 done_plain : (answer : Result Verdict Refusal) (j : Judged) (q : Packet) → IsPlain j → packet_in (if_done answer j) ≡ Some q → is_control q ≡ false
 done_plain (Ok Verdict.Done) (Ok a) q plain brought = plain a q refl brought

@@ -57,6 +57,7 @@ is_kind_stopped (EventKind.Up i) = false
 is_kind_stopped (EventKind.Down i) = false
 is_kind_stopped (EventKind.Routes routes) = false
 is_kind_stopped (EventKind.Rps rps) = false
+is_kind_stopped (EventKind.RpCandidates candidates) = false
 
 -- the guard, if it is on, stops an event
 abbrev pub is_stopped : Bool → EventKind → Bool

@@ -11,3 +11,4 @@ event_kind (LentKind.Up iface) = EventKind.Up iface
 event_kind (LentKind.Down iface) = EventKind.Down iface
 event_kind (LentKind.Routes routes) = EventKind.Routes routes
 event_kind (LentKind.Rps rps) = EventKind.Rps rps
+event_kind (LentKind.RpCandidates candidates) = EventKind.RpCandidates candidates

@@ -2,10 +2,11 @@
 use Rattle.std.{specs.Prelude.{Bool, false, true}}
 use Rattle.pim_types.{specs.declared.event.EventKind.EventKind}
 
--- routes and RP ranges
+-- routes, RP ranges and candidates
 abbrev pub is_tested_in_memory : EventKind → Bool
 is_tested_in_memory (EventKind.Routes routes) = true
 is_tested_in_memory (EventKind.Rps rps) = true
+is_tested_in_memory (EventKind.RpCandidates candidates) = true
 is_tested_in_memory kind = false
 
 -- a packet that came on a link

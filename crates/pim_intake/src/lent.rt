@@ -1,10 +1,10 @@
-//! Events whose packets, routes and ranges are borrowed.
+//! Events whose packets, routes, ranges and candidates are borrowed.
 ghost use Rattle.std.specs.Prelude.{◌≡◌, IfSome, None, false};
 ghost use Rattle.pim_intake.specs.Lent.{event_kind};
 ghost use Rattle.pim_intake.specs.Memory.{is_frame};
 ghost use Rattle.pim_types.specs.declared.event.EventKind.{EventKind as EventValue};
 
-use pim_types::{Event, EventKind, IfaceId, Lent, Route, RpRange};
+use pim_types::{Event, EventKind, IfaceId, Lent, Route, RpCandidate, RpRange};
 use std::marker::Model;
 
 /// What happens to a router in one step, and what it brings.
@@ -17,6 +17,7 @@ pub enum LentKind<'a> {
     Down { iface: IfaceId },
     Routes { routes: Lent<'a, Route> },
     Rps { rps: Lent<'a, RpRange> },
+    RpCandidates { candidates: Lent<'a, RpCandidate> },
 }
 
 /// An event that owns nothing: a clause sees the event that it stands for.
@@ -57,6 +58,9 @@ impl<'a> LentEvent<'a> {
             },
             EventKind::Rps { rps } => LentKind::Rps {
                 rps: Lent::of(rps.as_slice()),
+            },
+            EventKind::RpCandidates { candidates } => LentKind::RpCandidates {
+                candidates: Lent::of(candidates.as_slice()),
             },
         };
         LentEvent {

@@ -33,3 +33,4 @@ refusal_number Refusal.ConfiguredRps = 38
 refusal_number Refusal.BadScenario = 39
 refusal_number Refusal.OwnAddresses = 70
 refusal_number Refusal.PlacesDontFit = 73
+refusal_number Refusal.BadCandidates = 76

@@ -4,7 +4,7 @@ use thiserror::Error;
 
 /// Why input was refused. A refused event, list of routes or configuration has changed nothing.
 ///
-/// 1 to 9 are about the bytes of a packet, 20 to 26 about an event, 27 about a move between
+/// 1 to 9 are about the bytes of a packet, 20 to 26 and 75 about an event, 27 about a move between
 /// routers, 30 to 38 and 70 about a configuration and 39 about a scenario.
 #[derive(Clone, Copy, PartialEq, Eq, Debug, Error)]
 pub enum Refusal {
@@ -37,6 +37,7 @@ pub enum Refusal {
     BadScenario = 39,
     OwnAddresses = 70,
     PlacesDontFit = 73,
+    BadCandidates = 76,
 }
 
 impl Refusal {
@@ -82,6 +83,7 @@ impl Refusal {
             Refusal::BadScenario => "the scenario is wrong",
             Refusal::OwnAddresses => "the router's own addresses are wrong",
             Refusal::PlacesDontFit => "the map of places doesn't name each interface once",
+            Refusal::BadCandidates => "a list of candidate RPs is wrong",
         }
     }
 }

@@ -2,7 +2,7 @@
 use Rattle.std.{proofs.Common.{◌≡◌, ◌∙◌, ℕ, suc, zero, Bool, false, true, if◌then◌else◌, List, [], ◌∷◌, Option, Some, None, Ok, Err, refl, sym, ap, subst}, specs.{List.slice_get, Option.option_map_or, Prelude.{IfSome, option_and_then, set}}}
 use Rattle.pim_ip.{specs.{Ipv4.is_source_specific, Prefixes.longest_match}}
 use Rattle.pim_types.{specs.{Keys.star_key, declared.{config.IfaceId.IfaceId, event.{Event.Event, EventKind.EventKind}, outcome.{Outcome.Outcome, Verdict.Verdict}}}}
-use Rattle.pim_model.{specs.{Network.{At, Network, Station, event_of, moved, moved_at, station_at, stepped}, State.{State, is_own, is_own_among}, Step.step, Tables.{has_row, row_at}, Unicast.{rp_among, rp_of}}}
+use Rattle.pim_model.{specs.{Network.{At, Network, Station, event_of, moved, moved_at, station_at, stepped}, State.{State, is_own, is_own_among}, Step.step, Tables.{has_row, row_at}, Unicast.{rp_among, rp_of, no_ranges}, Candidates.chosen_among}}
 use Rattle.pim_net.{specs.{Carried.{AreMoves, HasMoved, carried_packet}, declared.moves.Move.Move, Showing.{Standing, shown_state}}}
 use Rattle.igmp_older.{specs.{Joined.{FrontedRouter, bytes_given, event_given, joined_step, kind_given, known_after, known_if, older_in, older_of, present_end, rows_of}, Presence.{Present, hosts_on}, Translation.{Gives, Translation, packet_given, translation}, declared.{front.Given.Given, older.Older.Older}}}
 use Rattle.pim_lab.{specs.{Fronts.{IsMarkOf, Stands, behind, marked}, declared.front.Mark.Mark}}
@@ -52,8 +52,8 @@ none_either false = refl
 -- nor an RP of a group
 pub rp_told : (standing : Option Standing) (g : ℕ)
     → option_and_then (λ (r : Standing). rp_of r.state g) standing
-    ≡ rp_among (option_map_or (λ (r : Standing). r.state.ranges) standing []) g
-unfolding rp_of rp_among longest_match
+    ≡ rp_among (option_map_or (λ (r : Standing). r.state.ranges) standing no_ranges) g
+unfolding rp_of rp_among longest_match chosen_among
 rp_told None g = none_either (is_source_specific g)
 rp_told (Some r) g = refl
 

@@ -2,7 +2,7 @@
 use Rattle.std.{proofs.Common.{◌≡◌, ◌∙◌, ◌++◌, ℕ, Bool, false, List, [], Option, Some, None, Ok, Err, map, refl, ap}, specs.{Option.option_map_or}}
 use Rattle.pim_ip.{specs.{Ipv4.{Packet, ipv4_reading}, declared.refusal.Refusal.Refusal}}
 use Rattle.pim_types.{specs.declared.{config.IfaceId.IfaceId, event.{Event.Event, EventKind.EventKind}, name.SourceGroup.SourceGroup, outcome.{Emission.Emission, Outcome.Outcome}}}
-use Rattle.pim_model.{specs.{Network.{Network, Station, moved_at, sent_by, station_at}, State.State}}
+use Rattle.pim_model.{specs.{Network.{Network, Station, moved_at, sent_by, station_at}, State.State, Unicast.no_ranges}}
 use Rattle.pim_net.{specs.Showing.{Standing, shown_state, with_sent_at}}
 use Rattle.igmp_older.{specs.{Joined.{FrontedRouter, joined_step}, Presence.Present}}
 use Rattle.pim_anycast.{specs.{Announced.{announced_due, announced_new, is_announced, is_local, local_keys}, Joined.{event_given, kind_given, sent_after, sent_before}, Passed.{bytes_given, copies_of, passed}, declared.{front.Passed.Passed, set.RpSet.RpSet}}}
@@ -13,33 +13,33 @@ use Rattle.pim_lab.{specs.{Fronts.{Stands, behind}, Shared.{IsWatchOf, beside, c
 
 module _ (sets : List RpSet) (standing : Option Standing) (s : State) (stands : Stands standing s) where
   pub asked_passed : (bytes : List ℕ)
-      → passed sets (option_map_or (λ (r : Standing). r.state.ranges) standing []) bytes ≡ passed sets s.ranges bytes
-  asked_passed bytes = rw (asked_of (λ (t : State). t.ranges) [] standing s stands) refl
+      → passed sets (option_map_or (λ (r : Standing). r.state.ranges) standing no_ranges) bytes ≡ passed sets s.ranges bytes
+  asked_passed bytes = rw (asked_of (λ (t : State). t.ranges) no_ranges standing s stands) refl
 
   pub asked_before : (g src : ℕ)
-      → is_announced sets (option_map_or (λ (r : Standing). r.state.ranges) standing [])
+      → is_announced sets (option_map_or (λ (r : Standing). r.state.ranges) standing no_ranges)
       (option_map_or (λ (r : Standing). is_local r.state g src) standing false) g
       ≡ is_announced sets s.ranges (is_local s g src) g
   asked_before g src =
-      rw (asked_of (λ (t : State). t.ranges) [] standing s stands, asked_of (λ (t : State). is_local t g src) false standing s stands)
+      rw (asked_of (λ (t : State). t.ranges) no_ranges standing s stands, asked_of (λ (t : State). is_local t g src) false standing s stands)
       refl
 
   pub asked_new : (before : Bool) (g src : ℕ)
-      → announced_new sets (option_map_or (λ (r : Standing). r.state.ranges) standing []) before
+      → announced_new sets (option_map_or (λ (r : Standing). r.state.ranges) standing no_ranges) before
       (option_map_or (λ (r : Standing). is_local r.state g src) standing false) g src
       ≡ announced_new sets s.ranges before (is_local s g src) g src
   asked_new before g src =
-      rw (asked_of (λ (t : State). t.ranges) [] standing s stands, asked_of (λ (t : State). is_local t g src) false standing s stands)
+      rw (asked_of (λ (t : State). t.ranges) no_ranges standing s stands, asked_of (λ (t : State). is_local t g src) false standing s stands)
       refl
 
   pub asked_due : (moment : ℕ)
-      → announced_due sets (option_map_or (λ (r : Standing). r.state.ranges) standing [])
+      → announced_due sets (option_map_or (λ (r : Standing). r.state.ranges) standing no_ranges)
       (option_map_or (λ (r : Standing). local_keys r.state) standing []) moment
       (option_map_or (λ (r : Standing). r.state.present) standing 0)
       ≡ announced_due sets s.ranges (local_keys s) moment s.present
   asked_due moment =
       rw (
-        asked_of (λ (t : State). t.ranges) [] standing s stands,
+        asked_of (λ (t : State). t.ranges) no_ranges standing s stands,
         asked_of local_keys [] standing s stands,
         asked_of (λ (t : State). t.present) 0 standing s stands,
       )

@@ -5,11 +5,16 @@ use Rattle.pim_types.{specs.declared.{event.EventKind.EventKind, fact.GroupRecor
 use Rattle.pim_model.{specs.{State.State, Tables.Table}}
 use Rattle.pim_net.{specs.Showing.Standing}
 use Rattle.igmp_older.{specs.{Joined.{FrontedRouter, known_if, noted_answered, older_in}, Presence.{Present, left, looked}}}
+use Rattle.pim_bsr.{specs.Hearing.{Around, around_if}}
 use Rattle.pim_lab.{specs.declared.front.Mark.Mark}
 
 -- the router hasn't failed, and this is its state
 abbrev pub Stands : Option Standing → State → Type 0
 Stands standing s = option_map (λ (r : Standing). r.state) standing ≡ Some s
+
+-- what a router answers, if it hasn't failed
+abbrev pub around_in : Option Standing → Around
+around_in o = around_if (λ (r : Standing). r.state) o
 
 -- a router's state behind what is known of older hosts
 abbrev pub behind : Present → State → FrontedRouter

@@ -11,10 +11,11 @@ ghost use Rattle.pim_lab.specs.Fronts.{IsMarkOf, Stands, behind, marked};
 
 use igmp_older::{Given, Presence, Querier, note_answered, translate};
 use pim_anycast::{OwnAddresses, Rendezvous};
+use pim_bsr::Surroundings;
 use pim_net::{Move, Net, NetLog, Router, Wire};
 use pim_types::fact::GroupRecordRow;
 use pim_types::{
-    Addr, Event, EventKind, Fault, IfaceId, Outcome, Refusal, Series, SourceGroup, Verdict,
+    Addr, Event, EventKind, Fault, Hop, IfaceId, Outcome, Refusal, Series, SourceGroup, Verdict,
 };
 use std::alloc::{AllocError, Global};
 
@@ -58,12 +59,13 @@ impl OwnAddresses for Asked<'_> {
 
 impl Rendezvous for Asked<'_> {
     ghost use Rattle.pim_anycast.specs.Announced.{is_local, local_keys};
+    ghost use Rattle.pim_model.specs.Unicast.{no_ranges};
     ghost use Rattle.std.specs.Option.{option_map_or};
     ghost use Rattle.std.specs.Prelude.{[], false};
 
     ghost present = { λ a. option_map_or (λ r. r.state.present) a.router.now.standing 0 };
 
-    ghost ranges = { λ a. option_map_or (λ r. r.state.ranges) a.router.now.standing [] };
+    ghost ranges = { λ a. option_map_or (λ r. r.state.ranges) a.router.now.standing no_ranges };
 
     ghost is_local = { λ a g src. option_map_or (λ r. is_local r.state g src) a.router.now.standing false };
 
@@ -85,6 +87,41 @@ impl Rendezvous for Asked<'_> {
     #[tactic(auto, unfolding(pim_anycast::specs::Announced::is_local, pim_anycast::specs::Announced::local_keys))]
     fn local_sources(&self, alloc: Global) -> Result<Vec<SourceGroup>, AllocError> {
         self.router.local_sources(alloc)
+    }
+}
+
+impl Surroundings for Asked<'_> {
+    ghost use Rattle.pim_lab.specs.Fronts.{around_in};
+
+    ghost around = { λ a. around_in a.router.now.standing };
+
+    fn present_moment(&self) -> u64 {
+        self.router.present_moment()
+    }
+
+    fn is_own(&self, address: Addr) -> bool {
+        self.router.is_own(address)
+    }
+
+    fn is_neighbour(&self, iface: IfaceId, address: Addr) -> bool {
+        self.router.is_neighbour(iface, address)
+    }
+
+    #[tactic(auto, unfolding(pim_bsr::specs::Hearing::rpf_hop))]
+    fn rpf_neighbour(&self, address: Addr) -> Option<Hop> {
+        self.router.rpf_neighbour(address)
+    }
+
+    fn interface_count(&self) -> u32 {
+        self.router.interface_count()
+    }
+
+    fn has_neighbours(&self, iface: IfaceId) -> bool {
+        self.router.has_neighbours(iface)
+    }
+
+    fn address(&self, iface: IfaceId) -> Addr {
+        self.router.address(iface)
     }
 }
 
@@ -297,6 +334,10 @@ fn pass(
             Ok(Passed::same(alloc, draw, kind, Mark::Stay))
         }
         EventKind::Rps { rps } => Ok(Passed::same(alloc, draw, EventKind::Rps { rps }, Mark::Stay)),
+        EventKind::RpCandidates { candidates } => {
+            let kind = EventKind::RpCandidates { candidates };
+            Ok(Passed::same(alloc, draw, kind, Mark::Stay))
+        }
     }
 }
 

@@ -4,20 +4,24 @@ ghost use Rattle.pim_net.specs.Showing.{node_of};
 ghost use Rattle.std.specs.Prelude.{◌≡◌, IfErr, IfOk, Ok, OnOk, map};
 
 use crate::front::Asked;
+use crate::learned::{self, Told};
 use crate::nodes::{have_sets, reloaded_of, station_of};
 use crate::saved::Unresumed;
-use crate::shared;
 use igmp_older::Presence;
 use igmp_older_saved::{HostRow, are_held, open_saved, resumed_rows, saved_hosts, write_saved};
 use lab_parts::{
-    Delivery, Frames, Fronts, Lines, Names, OlderLine, Reloaded, RowLine, Station, Trouble,
+    Delivery, ElectedLine, Frames, Fronts, LearnedLine, Learning, Lines, Names, OlderLine,
+    Reloaded, RowLine, Station, Trouble,
 };
 use pim_anycast::{Anycast, BadRpSet};
+use pim_bsr::{Heard, Listener};
 use pim_net::{Net, Node, Renewal, Router, Unrestored, Wire};
 use pim_rows::Table;
 use pim_saver::ReadFault;
 use pim_scenario::{ConfigText, RouterText, ScenarioMove, ScenarioRefusal};
-use pim_types::{Emission, Event, EventKind, Fault, Key, Outcome, Refusal, Series, Verdict};
+use pim_types::{
+    Config, Emission, Event, EventKind, Fault, Key, Outcome, Refusal, Series, Verdict,
+};
 use std::alloc::{AllocError, Global};
 
 /// How many deliveries one settle makes at most.
@@ -131,7 +135,7 @@ impl<W: Wire> Lab<W> {
                 places,
             } => {
                 let at = At { number, router };
-                match self.renewal_of(next, places)? {
+                match self.renewal_of(router, next, places)? {
                     Ok(next) => self.reload(at, draw, next, lines),
                     Err(BadRpSet) => self.refuse_sets(at, lines),
                 }
@@ -262,6 +266,7 @@ impl<W: Wire> Lab<W> {
     // have its sets of RPs then.
     fn renewal_of(
         &mut self,
+        router: usize,
         next: ConfigText,
         places: Series<Option<u32>>,
     ) -> Result<Result<(Reloaded, Renewal), BadRpSet>, AllocError> {
@@ -275,12 +280,37 @@ impl<W: Wire> Lab<W> {
             Ok(anycast) => anycast,
             Err(refusal) => return Ok(Err(refusal)),
         };
+        let learning = Learning::of(self.alloc, front, &config)?;
+        let config = self.with_learned(router, config, learning.as_ref())?;
         let fronts = Fronts {
             text: front,
             anycast,
+            learning,
         };
         let links = self.names.links(self.alloc, links)?;
         Ok(Ok(reloaded_of(self.alloc, config, links, fronts, places)?))
+    }
+
+    // A configuration with the RP ranges that its router is to be given by a listener with these settings.
+    fn with_learned(
+        &self,
+        router: usize,
+        config: Config,
+        learning: Option<&Learning>,
+    ) -> Result<Config, AllocError> {
+        let (Some(listener), Some(learning)) = (self.listener(router), learning) else {
+            return Ok(config);
+        };
+        let limit = learning.limit as usize;
+        let rps = listener.given_beside(self.alloc, limit, learning.ranges.as_slice())?;
+        let mut config = config;
+        config.rps = Series::from_vec(rps);
+        Ok(config)
+    }
+
+    // The listener of the router at a place, if it has one.
+    fn listener(&self, router: usize) -> Option<&Listener> {
+        self.stations.get(router)?.listener.as_ref()
     }
 
     // Keeps what the lab knows of another configuration of a router.
@@ -291,7 +321,7 @@ impl<W: Wire> Lab<W> {
         let Some(station) = self.stations.get_mut(router) else {
             return Err(Trouble::Fault(Fault::Failed));
         };
-        station.reload(reloaded)?;
+        station.reload(self.alloc, reloaded)?;
         Ok(())
     }
 
@@ -308,8 +338,36 @@ impl<W: Wire> Lab<W> {
             return self.print_each(at, lines);
         }
         let event = station.hear(self.alloc, event)?;
-        let outcome = shared::run(self.alloc, &mut self.net, at.router, station, event)?;
-        self.print_with_tables(at, outcome, lines)
+        let Told { outcome, heard } = learned::run(
+            self.alloc,
+            &mut self.net,
+            at.router,
+            station,
+            event,
+        )?;
+        match heard {
+            Some(heard) => self.print_heard(at, heard, outcome, lines),
+            None => self.print_with_tables(at, outcome, lines),
+        }
+    }
+
+    // Prints what a router's listener heard, and what left by it, with the tables if they are printed.
+    fn print_heard(
+        &mut self,
+        at: At,
+        heard: Heard,
+        outcome: Outcome,
+        lines: &mut Lines,
+    ) -> Result<(), Trouble>
+        ensures { IfErr result (λ t. IsFault t) }
+    {
+        // Each move names one of the routers.
+        let Some(station) = self.stations.get(at.router) else {
+            return Err(Trouble::Fault(Fault::Failed));
+        };
+        lines.push(station.heard_line(at.number, heard))?;
+        self.print_packets(at, outcome, lines)?;
+        self.print_each(at, lines)
     }
 
     // Delivers a frame to a router, behind its fronts.
@@ -371,7 +429,7 @@ impl<W: Wire> Lab<W> {
         Ok(())
     }
 
-    // Prints what became of a move, and the packets that left, with queries as the router's version has them.
+    // Prints what became of a move, and the packets that left.
     fn print(&mut self, at: At, outcome: Outcome, lines: &mut Lines) -> Result<(), Trouble>
         ensures { IfErr result (λ t. IsFault t) }
     {
@@ -380,6 +438,17 @@ impl<W: Wire> Lab<W> {
             return Err(Trouble::Fault(Fault::Failed));
         };
         lines.push(station.move_line(at.number, outcome.answer))?;
+        self.print_packets(at, outcome, lines)
+    }
+
+    // Prints the packets that left, with queries as the router's version has them.
+    fn print_packets(&mut self, at: At, outcome: Outcome, lines: &mut Lines) -> Result<(), Trouble>
+        ensures { IfErr result (λ t. IsFault t) }
+    {
+        // Each move names one of the routers.
+        let Some(station) = self.stations.get(at.router) else {
+            return Err(Trouble::Fault(Fault::Failed));
+        };
         let emissions = outcome.emissions.as_slice();
         let first = first_copy(emissions, outcome.copies);
         for (place, emission) in emissions.iter().enumerate() {
@@ -444,7 +513,8 @@ impl<W: Wire> Lab<W> {
         match self.net.router(place) {
             Some(router) => {
                 print_router(router, lines)?;
-                print_older(self.alloc, router, &station.presence, lines)
+                print_older(self.alloc, router, &station.presence, lines)?;
+                print_learned(station.listener.as_ref(), lines)
             }
             None => Ok(()),
         }
@@ -480,6 +550,32 @@ fn print_older(
 {
     for row in presence.older_rows(alloc, &Asked { router })? {
         lines.push(OlderLine { row })?;
+    }
+    Ok(())
+}
+
+// Prints what the router's listener learned, if it has one: the elected BSR, the RPs in force, and those that wait.
+fn print_learned(listener: Option<&Listener>, lines: &mut Lines) -> Result<(), Trouble>
+    ensures { IfErr result (λ t. IsFault t) }
+{
+    let Some(listener) = listener else {
+        return Ok(());
+    };
+    if let Some(elected) = listener.elected() {
+        lines.push(ElectedLine { elected })?;
+    }
+    for rp in listener.rps() {
+        lines.push(LearnedLine::in_force(*rp, listener.is_given(*rp)))?;
+    }
+    print_waiting(listener, lines)
+}
+
+// Prints the RPs of messages whose other fragments haven't come.
+fn print_waiting(listener: &Listener, lines: &mut Lines) -> Result<(), Trouble>
+    ensures { IfErr result (λ t. IsFault t) }
+{
+    for part in listener.parts() {
+        lines.push(LearnedLine::waiting(*part))?;
     }
     Ok(())
 }

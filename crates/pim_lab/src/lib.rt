@@ -3,6 +3,7 @@
 
 mod front;
 mod lab;
+mod learned;
 mod nodes;
 pub mod playing;
 pub mod saved;

@@ -1,11 +1,12 @@
 //! The routers of a scenario, as the lab and the network have them.
+ghost use Rattle.lab_parts.specs.Learning.{learning_of, new_listener};
 ghost use Rattle.lab_parts.specs.Stations.{nobody_behind, own_addresses};
 ghost use Rattle.pim_lab.specs.Statuses.{has_sets, router_node, sets_for};
 ghost use Rattle.pim_net.specs.Showing.{node_of};
 ghost use Rattle.std.specs.List.{list_all};
 ghost use Rattle.std.specs.Prelude.{◌≡◌, IfOk};
 
-use lab_parts::{Fronts, Reloaded, Station, link_numbers};
+use lab_parts::{Fronts, Learning, Reloaded, Station, link_numbers};
 use pim_anycast::{Anycast, RpSet, are_rp_sets};
 use pim_net::{Node, Renewal};
 use pim_scenario::{Link, RouterText};
@@ -41,6 +42,7 @@ pub(crate) fn station_of(alloc: Global, text: RouterText) -> Result<(Station, No
     ensures addresses { IfOk result (λ made. made.0.addresses ≡ own_addresses text.config) }
     ensures presence { IfOk result (λ made. made.0.presence ≡ nobody_behind text.config text.front.older_hosts) }
     ensures sets { IfOk result (λ made. made.0.anycast ≡ sets_for text.config text.sets) }
+    ensures listener { IfOk result (λ made. made.0.listener ≡ new_listener (learning_of text.front text.config)) }
 {
     let RouterText {
         name,
@@ -50,9 +52,11 @@ pub(crate) fn station_of(alloc: Global, text: RouterText) -> Result<(Station, No
         sets,
     } = text;
     let anycast = anycast_of(alloc, &config, sets);
+    let learning = Learning::of(alloc, front, &config)?;
     let fronts = Fronts {
         text: front,
         anycast,
+        learning,
     };
     let numbers = link_numbers(alloc, links.as_slice())?;
     let station = Station::new(alloc, name, &config, links, fronts)?;

@@ -23,7 +23,7 @@ use std::alloc::{AllocError, Global};
 const MOST_STOPS: usize = 4;
 
 /// The latest timestamp that an event may have, in ms.
-const LAST_MOMENT: u64 = 1 << 62;
+pub(crate) const LAST_MOMENT: u64 = 1 << 62;
 
 /// What a router's sets are asked once the router has answered.
 #[derive(Clone, Copy)]
@@ -180,6 +180,10 @@ fn share(
             let kind = EventKind::Rps { rps };
             Ok(Shared::same(alloc, draw, kind, Watch::Nothing))
         }
+        EventKind::RpCandidates { candidates } => {
+            let kind = EventKind::RpCandidates { candidates };
+            Ok(Shared::same(alloc, draw, kind, Watch::Nothing))
+        }
     }
 }
 
@@ -191,7 +195,7 @@ fn only_outcome(log: NetLog) -> Option<Outcome>
 }
 
 // An outcome with packets before and after those that are there.
-fn with_beside(
+pub(crate) fn with_beside(
     before: Series<Emission>,
     outcome: Outcome,
     after: Vec<Emission>,

@@ -2,10 +2,10 @@
 -- then to act on. An event that is refused or ignored changes nothing. Sections are those of RFC 7761.
 use Rattle.std.{specs.Prelude.{Bool, Err, List, Ok, Result, false, if◌then◌else◌, length, nat_le, nat_lt, not, true, ℕ, ◌&&◌, ◌==◌, ◌^◌}}
 use Rattle.pim_ip.{specs.{Addr.addr, Ipv4.{Packet, all_pim_routers, frame_limit, ipv4_reading, is_link_local, is_multicast, protocol_igmp, protocol_pim}, declared.refusal.Refusal.Refusal}}
-use Rattle.pim_types.{specs.declared.{config.{IfaceId.IfaceId, Route.Route, RpRange.RpRange}, event.EventKind.EventKind, outcome.{Ignored.Ignored, Stop.Stop}}}
+use Rattle.pim_types.{specs.declared.{config.{IfaceId.IfaceId, Route.Route, RpCandidate.RpCandidate, RpRange.RpRange}, event.EventKind.EventKind, outcome.{Ignored.Ignored, Stop.Stop}}}
 use Rattle.pim_wire.{specs.{Messages.pim_reading, RegisterParts.registered_group, Values.{JoinPrune, Register}, declared.{assert.Assert.Assert as AssertMessage, hello.Hello.Hello as HelloValue, register.RegisterStop.RegisterStop, view.PimView.PimView}}}
 use Rattle.igmp_wire.{specs.{Messages.igmp_reading, declared.view.IgmpView.IgmpView}}
-use Rattle.pim_model.{specs.{Hellos.hello_holdtime_of, Limits.{are_routes, are_rps}, Neighbours.is_neighbour, State.{State, iface_count, is_own, is_up, my_address}, Unicast.is_rp, declared.accepted.Accepted.Accepted}}
+use Rattle.pim_model.{specs.{Hellos.hello_holdtime_of, Limits.{are_candidates, are_routes, are_rps}, Neighbours.is_neighbour, State.{State, iface_count, is_own, is_up, my_address}, Unicast.{is_rp, with_candidates, with_ranges}, declared.accepted.Accepted.Accepted}}
 
 -- an accepted event, or why it is refused or ignored
 abbrev pub Judged : Type 0
@@ -139,7 +139,7 @@ unicast_packet_judged s p =
 unfoldable pub unicast_judged : State → List ℕ → Judged
 unicast_judged s bytes = of_read (ipv4_reading bytes) (unicast_packet_judged s)
 
--- ---- interfaces, time, routes and RP ranges
+-- ---- interfaces, time, routes, RP ranges and candidate RPs
 
 -- Up of a configured interface that is down
 unfoldable pub up_judged : State → IfaceId → Judged
@@ -171,9 +171,16 @@ unfoldable pub routes_judged : State → List Route → Judged
 routes_judged s routes =
     refuse_if (not (are_routes s.configured routes)) Refusal.BadRoutes >> Ok (Accepted.Routes routes)
 
--- new RP ranges that pass their tests
-unfoldable pub rps_judged : List RpRange → Judged
-rps_judged ranges = refuse_if (not (are_rps ranges)) Refusal.BadRps >> Ok (Accepted.Rps ranges)
+-- new RP ranges that pass their tests; the candidates stay
+unfoldable pub rps_judged : State → List RpRange → Judged
+rps_judged s ranges =
+    refuse_if (not (are_rps ranges)) Refusal.BadRps >> Ok (Accepted.Rps (with_ranges s.ranges ranges))
+
+-- new candidate RPs that pass their tests; the RP ranges stay
+unfoldable pub candidates_judged : State → List RpCandidate → Judged
+candidates_judged s candidates =
+    refuse_if (not (are_candidates candidates)) Refusal.BadCandidates
+    >> Ok (Accepted.Rps (with_candidates s.ranges candidates))
 
 -- ---- events
 
@@ -185,4 +192,5 @@ judged s (EventKind.Unicast bytes) = unicast_judged s bytes
 judged s (EventKind.Up i) = up_judged s i
 judged s (EventKind.Down i) = down_judged s i
 judged s (EventKind.Routes routes) = routes_judged s routes
-judged s (EventKind.Rps rps) = rps_judged rps
+judged s (EventKind.Rps rps) = rps_judged s rps
+judged s (EventKind.RpCandidates candidates) = candidates_judged s candidates

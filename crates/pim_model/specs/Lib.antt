@@ -1,6 +1,7 @@
 pub mod Tables
 pub mod State
 pub mod Messages
+pub mod Candidates
 pub mod Unicast
 pub mod Neighbours
 pub mod Receivers

@@ -1,10 +1,10 @@
--- The configurations, routes and RP ranges that are accepted.
+-- The configurations, routes, RP ranges and candidate RPs that are accepted.
 use Rattle.std.{specs.{List.{list_all, list_any}, Prelude.{Bool, List, Result, [], length, map, nat_le, nat_lt, not, true, ℕ, ◌&&◌, ◌*◌, ◌==◌, ◌||◌, ◌∷◌}}}
 use Rattle.pim_ip.{specs.{Ipv4.{is_multicast, is_unicast}, Prefixes.{contains, is_host_clear}, Tests.{expect, ◌>>◌}, declared.{addr.{Addr.Addr, Prefix.Prefix}, refusal.Refusal.Refusal}}}
-use Rattle.pim_types.{specs.declared.config.{Config.Config, InterfaceConfig.InterfaceConfig, Route.Route, RpRange.RpRange}}
+use Rattle.pim_types.{specs.declared.config.{Config.Config, InterfaceConfig.InterfaceConfig, Route.Route, RpCandidate.RpCandidate, RpRange.RpRange}}
 use Rattle.pim_model.{specs.{State.{Addressing, addressing_of, is_own_among}, Unicast.subnet}}
 
--- ---- routes and RP ranges
+-- ---- routes, RP ranges and candidate RPs
 
 -- two prefixes are equal
 abbrev pub same_prefix : Prefix → Prefix → Bool
@@ -52,6 +52,31 @@ unfoldable pub are_rps : List RpRange → Bool
 are_rps rps =
     nat_le (length rps) most_rps && list_all is_rp_range rps
     && are_distinct (map (λ (r : RpRange). r.prefix) rps)
+
+-- a candidate RP of a range inside 224.0.0.0/4: a unicast address, with a priority and a mask length that have a meaning
+unfoldable pub is_candidate : RpCandidate → Bool
+is_candidate c =
+    is_prefix c.prefix && is_multicast c.prefix.address.bits && nat_le 4 c.prefix.length && is_unicast c.rp.bits
+    && nat_le c.priority 255 && nat_le c.hash_length 32
+
+-- two candidates have the same prefix and the same RP
+abbrev pub same_candidate : RpCandidate → RpCandidate → Bool
+same_candidate c d = same_prefix c.prefix d.prefix && (c.rp.bits == d.rp.bits)
+
+-- no RP is listed twice for a prefix
+unfoldable pub are_distinct_candidates : List RpCandidate → Bool
+are_distinct_candidates [] = true
+are_distinct_candidates (c ∷ cs) = not (list_any (same_candidate c) cs) && are_distinct_candidates cs
+
+-- the most candidates
+abbrev pub most_candidates : ℕ
+most_candidates = 256
+
+-- a list of candidates is accepted
+unfoldable pub are_candidates : List RpCandidate → Bool
+are_candidates candidates =
+    nat_le (length candidates) most_candidates && list_all is_candidate candidates
+    && are_distinct_candidates candidates
 
 -- ---- configurations
 

@@ -2,7 +2,7 @@
 -- upstream state and no RPF neighbour, since these follow from the facts.
 use Rattle.std.{specs.{List.list_any, Option.option_map_or, Prelude.{Bool, List, Option, [], length, slice_get, ℕ, ◌==◌, ◌||◌}}}
 use Rattle.pim_ip.{specs.declared.addr.Addr.Addr}
-use Rattle.pim_types.{specs.{Keys.iface_key, declared.{config.{Config.Config, InterfaceConfig.InterfaceConfig, Route.Route, RpRange.RpRange, Settings.Settings}, fact.{AssertRow.AssertRow, DownstreamRow.DownstreamRow, GroupRecordRow.GroupRecordRow, GroupRepeatRow.GroupRepeatRow, InterfaceRow.InterfaceRow, JoinTimerRow.JoinTimerRow, NeighbourRow.NeighbourRow, OverrideTimerRow.OverrideTimerRow, QuerierRow.QuerierRow, RegisterRow.RegisterRow, SendingRow.SendingRow, SourceRecordRow.SourceRecordRow, SourceRepeatRow.SourceRepeatRow, SourceRow.SourceRow}}}}
+use Rattle.pim_types.{specs.{Keys.iface_key, declared.{config.{Config.Config, InterfaceConfig.InterfaceConfig, Route.Route, RpTable.RpTable, Settings.Settings}, fact.{AssertRow.AssertRow, DownstreamRow.DownstreamRow, GroupRecordRow.GroupRecordRow, GroupRepeatRow.GroupRepeatRow, InterfaceRow.InterfaceRow, JoinTimerRow.JoinTimerRow, NeighbourRow.NeighbourRow, OverrideTimerRow.OverrideTimerRow, QuerierRow.QuerierRow, RegisterRow.RegisterRow, SendingRow.SendingRow, SourceRecordRow.SourceRecordRow, SourceRepeatRow.SourceRepeatRow, SourceRow.SourceRow}}}}
 use Rattle.pim_model.{specs.Tables.{Table, below, has_row}}
 
 -- what is configured of the router's addresses: of each interface, in the order of their numbers, and the own addresses
@@ -17,7 +17,7 @@ pub record State : Type 0 where
   pub configured : Addressing
   pub present : ℕ
   pub routes : List Route
-  pub ranges : List RpRange
+  pub ranges : RpTable
   -- under keys of interfaces: the interfaces that are up, with GenID and Hello Timer; PIM neighbours (RFC 7761,
   -- sections 4.1.1 and 4.3); the querier's state (RFC 3376, section 6.6.2)
   pub interfaces : Table InterfaceRow
@@ -56,14 +56,14 @@ settings_of c = record {
 abbrev pub addressing_of : Config → Addressing
 addressing_of c = record { interfaces = c.interfaces; addresses = c.addresses }
 
--- the state at the opening: timestamp 0, all interfaces down, the configured routes and RP ranges
+-- the state at the opening: timestamp 0, all interfaces down, the configured routes and RP ranges, no candidate RP
 unfoldable pub opening : Config → State
 opening c = record {
   settings = settings_of c;
   configured = addressing_of c;
   present = 0;
   routes = c.routes;
-  ranges = c.rps;
+  ranges = record { static_ranges = c.rps; candidates = [] };
   interfaces = [];
   neighbours = [];
   queriers = [];

@@ -2,7 +2,7 @@
 -- those of RFC 7761.
 use Rattle.std.{specs.Prelude.{Err, List, Ok, Result, [], false, length, true, ℕ, ◌++◌, ◌+◌, ◌∷◌}}
 use Rattle.pim_ip.{specs.{Ipv4.Packet, declared.refusal.Refusal.Refusal}}
-use Rattle.pim_types.{specs.{Keys.{iface_key, is_on}, declared.{config.RpRange.RpRange, event.Event.Event, fact.InterfaceRow.InterfaceRow, outcome.{Emission.Emission, Outcome.Outcome, Stop.Stop, Verdict.Verdict}}}}
+use Rattle.pim_types.{specs.{Keys.{iface_key, is_on}, declared.{config.RpTable.RpTable, event.Event.Event, fact.InterfaceRow.InterfaceRow, outcome.{Emission.Emission, Outcome.Outcome, Stop.Stop, Verdict.Verdict}}}}
 use Rattle.pim_wire.{specs.{RegisterParts.{is_null, registered_group, registered_source}, Values.{Encapsulated, Null, Register}}}
 use Rattle.pim_model.{specs.{Asserts.assert_received, Downstream.to_me, Firing.{fire_all, settled}, Forwarding.{Forwarded, forwarded, register_received}, Full.is_full, Hellos.{hello_received, triggered_hello_delay}, Judging.{Judged, judged}, Messages.Message, Querier.{querier_up, query_seen, report_seen}, Registers.{register_stop_seen, registers_after_rps}, Seen.seen, State.State, Tables.{delay_in, drop_where, put}, Writing.{copies_of, tunnel_of}, declared.accepted.Accepted.Accepted}}
 
@@ -64,8 +64,8 @@ iface_down s i = record s {
   asserts = drop_where (is_on i) s.asserts;
 }
 
--- the RP ranges are replaced: RP changed (4.4.1)
-unfoldable pub rps_replaced : State → List RpRange → State
+-- the RP ranges and the candidates are replaced: RP changed (4.4.1)
+unfoldable pub rps_replaced : State → RpTable → State
 rps_replaced s rps =
     let after : State = record s { ranges = rps } in
     record after { registers = registers_after_rps s after }

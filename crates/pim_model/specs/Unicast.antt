@@ -1,16 +1,16 @@
--- Unicast routes, which the RFC calls the MRIB, and static RPs. Sections are those of RFC 7761. A line `here:` says
+-- Unicast routes, which the RFC calls the MRIB, and RPs. Sections are those of RFC 7761. A line `here:` says
 -- where this profile decides what the RFC leaves open, or does otherwise.
-use Rattle.std.{specs.{Option.option_map_or, Prelude.{Bool, None, Option, Some, false, find, if◌then◌else◌, option_and_then, option_map, true, ℕ, ◌&&◌, List, length, slice_get}}}
+use Rattle.std.{specs.{List.list_any, Option.option_map_or, Prelude.{Bool, None, Option, Some, [], false, find, if◌then◌else◌, nat_lt, option_and_then, option_map, true, ℕ, ◌&&◌, ◌||◌, List, length, slice_get}}}
 use Rattle.pim_ip.{specs.{Addr.addr, Ipv4.is_source_specific, Prefixes.{contains, longest_match}, declared.addr.Prefix.Prefix}}
-use Rattle.pim_types.{specs.{Keys.iface_key, declared.{config.{InterfaceConfig.InterfaceConfig, Route.Route, RpRange.RpRange}, fact.InterfaceRow.InterfaceRow, path.Path.Path}}}
-use Rattle.pim_model.{specs.{State.{Addressing, State, is_own_among}, Tables.{same_option, Table, has_row, below}}}
+use Rattle.pim_types.{specs.{Keys.iface_key, declared.{config.{InterfaceConfig.InterfaceConfig, Route.Route, RpCandidate.RpCandidate, RpRange.RpRange, RpTable.RpTable}, fact.InterfaceRow.InterfaceRow, path.Path.Path}}}
+use Rattle.pim_model.{specs.{Candidates.chosen_among, State.{Addressing, State, is_own_among}, Tables.{same_option, Table, has_row, below}}}
 
 -- the prefix of an interface's link
 abbrev pub subnet : InterfaceConfig → Prefix
 subnet c = record { address = c.address; length = c.length }
 
 -- The rules with names in `_among` read the configured interfaces, the rows of those that are up, the routes and the RP
--- ranges; `route` and `rp_of` are those of a state.
+-- ranges with the candidates; `route` and `rp_of` are those of a state.
 
 -- the address is in the subnet of the interface, and the interface is up
 unfoldable pub is_on_link_among : Addressing → Table InterfaceRow → ℕ → ℕ → Bool
@@ -64,12 +64,38 @@ route_among configured up routes address =
 unfoldable pub route : State → ℕ → Option Path
 route s address = route_among s.configured s.interfaces s.routes address
 
--- RP(G) (4.7.1): that of the range with the longest prefix that contains G; an SSM group has none (4.8.1)
--- here: ranges are configured, and no prefix is listed twice, so no priority and no hash function decides
-unfoldable pub rp_among : List RpRange → ℕ → Option ℕ
+-- of a range and a candidate for a group the one of the longer prefix
+-- here: of one prefix the range, which somebody wrote down for just that prefix
+abbrev pub nearer_rp : Option RpRange → Option RpCandidate → Option ℕ
+nearer_rp None None = None
+nearer_rp None (Some c) = Some c.rp.bits
+nearer_rp (Some r) None = Some r.rp.bits
+nearer_rp (Some r) (Some c) = Some (if nat_lt r.prefix.length c.prefix.length then c.rp.bits else r.rp.bits)
+
+-- RP(G) (4.7.1): of the range with the longest prefix that contains G and the candidate that is chosen for G the one of
+-- the longer prefix; an SSM group has none (4.8.1)
+unfoldable pub rp_among : RpTable → ℕ → Option ℕ
 rp_among ranges g =
     if is_source_specific g then None
-    else option_map (λ (r : RpRange). r.rp.bits) (longest_match (λ (r : RpRange). r.prefix) ranges g)
+    else nearer_rp (longest_match (λ (r : RpRange). r.prefix) ranges.static_ranges g) (chosen_among ranges.candidates g)
+
+-- the RP of a range, or of a candidate, passes a test
+abbrev pub any_rp : (ℕ → Bool) → RpTable → Bool
+any_rp test ranges =
+    list_any (λ (r : RpRange). test r.rp.bits) ranges.static_ranges
+    || list_any (λ (c : RpCandidate). test c.rp.bits) ranges.candidates
+
+-- no RP ranges and no candidates
+abbrev pub no_ranges : RpTable
+no_ranges = record { static_ranges = []; candidates = [] }
+
+-- other RP ranges beside the same candidates
+abbrev pub with_ranges : RpTable → List RpRange → RpTable
+with_ranges table ranges = record { static_ranges = ranges; candidates = table.candidates }
+
+-- other candidates beside the same RP ranges
+abbrev pub with_candidates : RpTable → List RpCandidate → RpTable
+with_candidates table candidates = record { static_ranges = table.static_ranges; candidates = candidates }
 
 -- RP(G) (4.7.1) in a state
 -- reads: the RP ranges

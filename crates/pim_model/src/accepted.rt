@@ -1,7 +1,7 @@
 //! The result of judging an event: what the router is to act on.
 use igmp_wire::{QueryView, ReportView};
 use pim_ip::{Addr, Ipv4View};
-use pim_types::{IfaceId, Lent, Route, RpRange};
+use pim_types::{IfaceId, Lent, Route, RpTable};
 use pim_wire::{Assert, Hello, JoinPruneView, RegisterStop, RegisterView};
 
 /// An event that passed its tests, but for that of the limit on facts, with what was read of its packet. A view borrows
@@ -20,8 +20,9 @@ pub enum Accepted<'a> {
     Routes {
         routes: Lent<'a, Route>,
     },
+    /// New RP ranges beside the candidates that there are, or new candidates beside the ranges.
     Rps {
-        ranges: Lent<'a, RpRange>,
+        ranges: RpTable,
     },
     Hello {
         iface: IfaceId,

@@ -1,9 +1,9 @@
 -- Routes and RPs, by what was found on the way, and the nodes that were visited.
 use Rattle.std.{proofs.Common.{◌≡◌, ℕ, true, false, List, Option, Some, None, option_map, refl, arith}}
 use Rattle.pim_ip.{specs.{Prefixes.longest_match, Ipv4.is_source_specific}}
-use Rattle.pim_types.{specs.{declared.{config.{Route.Route, RpRange.RpRange}, fact.InterfaceRow.InterfaceRow}, Keys.iface_key}}
+use Rattle.pim_types.{specs.{declared.{config.{Route.Route, RpRange.RpRange, RpTable.RpTable}, fact.InterfaceRow.InterfaceRow}, Keys.iface_key}}
 use Rattle.pim_trie.{specs.Meter.raised}
-use Rattle.pim_model.{specs.{State.{Addressing, is_own_among}, Tables.{Table, has_row}, Unicast.{link_among, link_path, route_among, route_path, routed_among, rp_among}}}
+use Rattle.pim_model.{specs.{State.{Addressing, is_own_among}, Tables.{Table, has_row}, Unicast.{link_among, link_path, route_among, route_path, routed_among, rp_among, nearer_rp}, Candidates.chosen_among}}
 use Rattle.pim_mrib.{specs.{Index.nodes_visited, Routes.{route_nodes, rp_nodes}}}
 
 module _ (configured : Addressing) (up : Table InterfaceRow) (routes : List Route) (address : ℕ) where
@@ -48,14 +48,14 @@ module _ (configured : Addressing) (up : Table InterfaceRow) (routes : List Rout
   unfolding route_nodes
   nodes_routed own link = rw (own, link) refl
 
-module _ (ranges : List RpRange) (group : ℕ) where
+module _ (ranges : RpTable) (group : ℕ) where
   pub rp_none : is_source_specific group ≡ true → rp_among ranges group ≡ None
   unfolding rp_among
   rp_none ssm = rw ssm refl
 
   pub rp_found : (best : Option RpRange) → is_source_specific group ≡ false
-      → longest_match (λ (r : RpRange). r.prefix) ranges group ≡ best
-      → rp_among ranges group ≡ option_map (λ (r : RpRange). r.rp.bits) best
+      → longest_match (λ (r : RpRange). r.prefix) ranges.static_ranges group ≡ best
+      → rp_among ranges group ≡ nearer_rp best (chosen_among ranges.candidates group)
   unfolding rp_among
   rp_found best ssm longest = rw (ssm, longest) refl
 
@@ -64,7 +64,7 @@ module _ (ranges : List RpRange) (group : ℕ) where
   rp_nodes_none ssm = rw ssm refl
 
   pub rp_nodes_found : is_source_specific group ≡ false
-      → rp_nodes ranges group ≡ nodes_visited (λ (r : RpRange). r.prefix) ranges group
+      → rp_nodes ranges group ≡ nodes_visited (λ (r : RpRange). r.prefix) ranges.static_ranges group
   unfolding rp_nodes
   rp_nodes_found ssm = rw ssm refl
 

@@ -44,14 +44,19 @@ impl<T: Prefixed + Drop> Drop for PrefixList<T> {
 }
 
 impl<T: Prefixed> Model for PrefixList<T> {
-    ghost use Rattle.std.specs.Prelude.{List};
+    ghost use Rattle.std.specs.List.{list_all};
+    ghost use Rattle.std.specs.Prelude.{◌≡◌, List, map, true};
+    ghost use Rattle.pim_model.specs.Limits.{are_distinct};
+    ghost use Rattle.pim_trie.specs.Entries.{is_canonical};
     ghost use Rattle.pim_mrib.specs.Index.{IsIndexOf};
 
     ghost Value = { List T };
 
     ghost view = { λ a. a.values.items };
 
-    ghost invariant = { λ a. IsIndexOf T.prefix_of a.values.items a.index };
+    ghost invariant = { λ a. IsIndexOf T.prefix_of a.values.items a.index
+        × (list_all (λ v. is_canonical (T.prefix_of v)) a.values.items ≡ true)
+        × (are_distinct (map T.prefix_of a.values.items) ≡ true) };
 }
 
 impl<T: Prefixed> PrefixList<T> {
@@ -90,6 +95,20 @@ impl<T: Prefixed> PrefixList<T> {
         Some(*value)
     }
 
+    // A list of the same values, in memory of its own.
+    pub(crate) fn copy(&self, meter: &mut Meter) -> Result<PrefixList<T>, AllocError>
+        ensures { IfOk result (λ copy. copy ≡ self.now) }
+    {
+        let mut index = Trie::new(self.alloc);
+        fill(&mut index, self.as_slice(), meter)?;
+        let values = Vec::from_slice(self.alloc, self.as_slice())?;
+        Ok(PrefixList {
+            alloc: self.alloc,
+            values,
+            index,
+        })
+    }
+
     // Puts these values in the place of the others, and says whether their prefixes are distinct.
     // Where they are not, or memory was refused, nothing has changed.
     pub(crate) fn replace(&mut self, values: &[T], meter: &mut Meter) -> Result<bool, AllocError>
@@ -110,7 +129,7 @@ impl<T: Prefixed> PrefixList<T> {
 }
 
 // Whether two lists have the same values in the same order.
-fn are_same<T: Prefixed>(first: &[T], second: &[T]) -> bool
+pub(crate) fn are_same<T: Prefixed>(first: &[T], second: &[T]) -> bool
     ensures { IsTrue result ↔ (first.now ≡ second.now) }
 {
     if first.len() != second.len() {

@@ -1,6 +1,6 @@
 -- Plans of events: each kind's fits where its parts do.
 use Rattle.std.{specs.{Box.box_value, Prelude.if◌then◌else◌}, proofs.Common.{◌≡◌, ◌<◌, ℕ, Bool, Box, Global, true, false, List, [], ap, inl, inr, refl, subst, sym, ◌∙◌}}
-use Rattle.pim_types.{specs.declared.{fact.Key.Key, config.{IfaceId.IfaceId, Route.Route, RpRange.RpRange}}}
+use Rattle.pim_types.{specs.declared.{fact.Key.Key, config.{IfaceId.IfaceId, Route.Route, RpTable.RpTable}}}
 use Rattle.pim_model.{specs.{declared.accepted.Accepted.Accepted, Full.{is_full, join_prune_is_full, keys_are_full, source_is_full}, State.{State, iface_count}, Step.{change, rps_replaced}, Downstream.{joined_keys, pruned_keys}}}
 use Rattle.law_events.{specs.{Rest.IsAtRest, Moved.{MovesAlone, keys_by_routes, keys_by_rps}}, proofs.MovedKeys.{routes_move, rps_move}}
 use Rattle.pim_rerouted.{specs.{Few.few_or_all, OtherRoutes.with_routes}}
@@ -103,7 +103,7 @@ routes_fit s routes touched table those brings =
     moved_fits s (Accepted.Routes routes) touched (Act.Control (Control.Routes table))
     (keys_by_routes s (with_routes s routes)) (ap Accepted.Routes brings) tt refl refl (λ w. (routes_move s w routes, refl)) those
 
-pub rps_fit : (s : State) (ranges : List RpRange) (touched : Touched) (table : Box RouteTable Global)
+pub rps_fit : (s : State) (ranges : RpTable) (touched : Touched) (table : Box RouteTable Global)
     → touched ≡ Touched.Keys (keys_by_rps s (rps_replaced s ranges)) → (box_value table).ranges ≡ ranges
     → (let p : Plan = record { touched = touched; act = Act.Control (Control.Ranges table) } in
     Fits s (Accepted.Rps ranges) p)

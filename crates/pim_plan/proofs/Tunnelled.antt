@@ -1,6 +1,6 @@
 -- Registers that change make no facts.
 use Rattle.std.{proofs.Common.{◌≡◌, ℕ, Bool, true, false, List, ◌∷◌, [], map, refl, ap, sym, ◌∙◌}, specs.{List.list_any, Prelude.if◌then◌else◌}}
-use Rattle.pim_types.{specs.declared.{config.{RpRange.RpRange, Route.Route}, fact.{Key.Key, RegisterRow.RegisterRow}}}
+use Rattle.pim_types.{specs.declared.{config.{RpTable.RpTable, Route.Route}, fact.{Key.Key, RegisterRow.RegisterRow}}}
 use Rattle.pim_model.{specs.{Registers.{register_stop_seen, registers_after_rps}, State.State, Step.rps_replaced, Tables.{Table, keys_in}, Upstream.fact_keys}}
 use Rattle.law_settled.{proofs.{FewerFacts.{IsFewer, fewer_both, no_other, table_fewer}, Parts.Registers}}
 
@@ -33,7 +33,7 @@ pub stop_leaves_facts : (s : State) (w g src : ℕ) → IsFewer s (register_stop
 unfolding register_stop_seen
 stop_leaves_facts s w g src = registers_leave_facts s _ (λ e. first_kept _ e.0 e.1 _)
 
-pub rps_leave_facts : (s : State) (ranges : List RpRange) → IsFewer s (rps_replaced s ranges)
+pub rps_leave_facts : (s : State) (ranges : RpTable) → IsFewer s (rps_replaced s ranges)
 unfolding rps_replaced registers_after_rps fact_keys
 rps_leave_facts s ranges =
     let after : State = record s { ranges = ranges } in

@@ -24,7 +24,7 @@ pub enum Control<'a> {
     Routes {
         table: Box<Mrib>,
     },
-    /// New RP ranges: those of the table replace the RP ranges of the router.
+    /// New RP ranges or candidates: those of the table replace those of the router.
     Ranges {
         table: Box<Mrib>,
     },

@@ -36,7 +36,7 @@ use pim_rerouted::{
 };
 use pim_state::{Meter, Touched, Turn, World};
 use pim_types::fact::RegisterState;
-use pim_types::{Addr, IfaceId, Key, Route, RpRange, Series, SourceGroup};
+use pim_types::{Addr, IfaceId, Key, Route, RpTable, Series, SourceGroup};
 use pim_wire::{Assert, Hello, JoinPruneView, RegisterStop, RegisterView};
 use std::alloc::{AllocError, Global};
 
@@ -502,13 +502,13 @@ fn plan_routes<'a>(
     Ok(Planning::Change(Plan { touched, act }))
 }
 
-// Plans new RP ranges: they touch what they move, and make no facts. If they equal the present ranges, nothing is
-// looked up.
+// Plans new RP ranges, or new candidates: they touch what they move, and make no facts. If they equal the present ones,
+// nothing is looked up.
 fn plan_rps<'a>(
     world: &World,
     turn: &Turn,
     meter: &mut Meter,
-    ranges: &[RpRange],
+    ranges: &RpTable,
     table: Box<Mrib>,
 ) -> Result<Planning<'a>, AllocError>
     requires { table.value.ranges ≡ ranges.now }
@@ -553,7 +553,7 @@ pub fn planned<'a>(
             routes.as_slice(),
             table.unwrap(),
         ),
-        Accepted::Rps { ranges } => plan_rps(world, turn, meter, ranges.as_slice(), table.unwrap()),
+        Accepted::Rps { ranges } => plan_rps(world, turn, meter, &ranges, table.unwrap()),
         Accepted::Hello { iface, from, hello } => plan_hello(
             world, turn, meter, iface, from, hello,
         ),

@@ -1,7 +1,7 @@
 -- What follows of another configuration, by what was opened.
 use Rattle.std.{proofs.Common.{◌≡◌, ◌++◌, List, [], inl, not, refl, sym, subst, ap, ◌∙◌}}
 use Rattle.pim_types.{specs.{declared.config.Config.Config, Keys.{is_of_group, names_source}}}
-use Rattle.pim_model.{specs.{Messages.Message, State.{addressing_of, State, settings_of}, Upstream.fact_keys}}
+use Rattle.pim_model.{specs.{Messages.Message, State.{addressing_of, State, settings_of}, Upstream.fact_keys, Unicast.with_ranges}}
 use Rattle.law_settled.{proofs.{FewerFacts.{IsFewer, fewer_both, no_other, rows_left, table_fewer}, Parts.Asserts}}
 use Rattle.law_events.{specs.Rest.IsAtRest}
 use Rattle.pim_store.{specs.PimTables.{AreKeyed, pim_tables}}
@@ -43,7 +43,7 @@ module _ (o : State) (c : Config) where
   pub under_within : IsWithin o (under o c)
   unfolding under
   under_within =
-      within_so o (under o c) (fewer_both o moved (under o c) moved_leaves_facts (rps_leave_facts moved c.rps))
+      within_so o (under o c) (fewer_both o moved (under o c) moved_leaves_facts (rps_leave_facts moved (with_ranges o.ranges c.rps)))
 
 -- what follows is what follows of what was opened
 pub followed : (o next a : State) (opening : List GroupOpening) (first said : Taking) → IsAtRest o

@@ -1,7 +1,7 @@
 -- A configuration that differs from the present one in nothing but its settings moves no fact but what queriers go by.
 use Rattle.std.{proofs.Common.{◌≡◌, ◌++◌, ℕ, List, [], refl, sym, ◌∙◌}}
 use Rattle.pim_types.{specs.declared.{config.Settings.Settings, outcome.{Emission.Emission, Outcome.Outcome}}}
-use Rattle.pim_model.{specs.{State.State, Step.ran}}
+use Rattle.pim_model.{specs.{State.State, Step.ran, Unicast.with_ranges}}
 use Rattle.law_events.{specs.Rest.IsAtRest}
 use Rattle.law_states.{specs.{Reload.config_of, ReloadLaws.with_settings, Reloading.{goodbyes, queriers_under, reload, removals, replaced, sent_by}}, proofs.{Goodbyes.none_say, ReloadedSettings.{none_moved, none_removed}}}
 
@@ -19,10 +19,10 @@ whole s t w =
     (after.0, none_say s s.configured (λ i up. refl) j ++ after.1))))
 
 pub settled_alone : (s next : State) (w : ℕ) → IsAtRest s → s.configured ≡ next.configured → s.routes ≡ next.routes
-    → s.ranges ≡ next.ranges → replaced s (config_of next) w ≡ (with s next.settings, [])
+    → s.ranges.static_ranges ≡ next.ranges.static_ranges → replaced s (config_of next) w ≡ (with s next.settings, [])
 unfolding config_of
 settled_alone s next w rest configured routes ranges =
-    (λ j. replaced s (config_of (record next { configured = sym configured j; routes = sym routes j; ranges = sym ranges j })) w)
+    (λ j. replaced s (config_of (record next { configured = sym configured j; routes = sym routes j; ranges = with_ranges next.ranges (sym ranges j) })) w)
     ∙ (whole s next.settings w ∙ none_moved s next.settings w rest)
 
 -- the settings of the next one, and then the queriers under them

@@ -29,7 +29,7 @@ use pim_types::{Emission, Fault, Series, SourceGroup};
 use std::alloc::{AllocError, Global};
 
 // Puts the world under the configuration of the next one, and says the Hellos that leave at once. All facts stay but what
-// queriers go by, and asserts that were won from addresses of before.
+// queriers go by, and asserts that were won from addresses of before. The candidates stay.
 #[tactic(auto, unfolding(law_states::specs::Reloading::under, law_states::specs::Reload::config_of, pim_model::specs::State::settings_of))]
 fn reconfigure(
     world: &mut World,
@@ -46,7 +46,8 @@ fn reconfigure(
     world.proof_keyed();
     let won = won_before(world, turn.alloc, &next)?;
     forget_asserts(world, meter, &won);
-    let ranges = world.reconfigure(next);
+    let mut ranges = world.reconfigure(next);
+    world.give_candidates(&mut ranges)?;
     queriers::put_all_under(world, turn.alloc)?;
     pim_register::rps_replaced(world, turn, meter, ranges)?;
     Ok(())

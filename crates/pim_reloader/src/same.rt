@@ -55,5 +55,5 @@ pub(crate) fn differ_in_settings(world: &World, next: &World) -> bool
     are_same_interfaces(before.configured(), after.configured())
         && are_same_addresses(before.addresses(), after.addresses())
         && world.has_routes(next.routes())
-        && world.has_ranges(next.ranges())
+        && world.has_static_ranges(next.static_ranges())
 }

@@ -1,8 +1,8 @@
 -- Whether an interface may move what has facts, by what is looked up.
 use Rattle.std.{proofs.{Common.{◌≡◌, ◌==◌, ◌&&◌, ◌||◌, ◌++◌, ℕ, Bool, true, false, List, [], ◌∷◌, Option, Some, None, is_some, refl, ap, ◌∙◌, arith}, Math.Bool.or_assoc, lemmas.List.Folds.list_any-append}, specs.{List.list_any, Option.option_map_or, Prelude.slice_get}}
 use Rattle.pim_ip.{specs.Prefixes.contains}
-use Rattle.pim_types.{specs.{declared.{config.{InterfaceConfig.InterfaceConfig, Route.Route, RpRange.RpRange}, fact.Key.Key}, Keys.source_in}}
-use Rattle.pim_model.{specs.{State.State, Unicast.subnet, Upstream.fact_keys}}
+use Rattle.pim_types.{specs.{declared.{config.{InterfaceConfig.InterfaceConfig, Route.Route, RpCandidate.RpCandidate, RpRange.RpRange}, fact.Key.Key}, Keys.source_in}}
+use Rattle.pim_model.{specs.{State.State, Unicast.{any_rp, subnet}, Upstream.fact_keys}}
 use Rattle.law_events.{specs.Switched.{is_in_subnet, may_lead_over}}
 use Rattle.pim_state.{specs.Sources.is_within}
 
@@ -16,7 +16,7 @@ module _ (s : State) (i : ℕ) where
 
   module _ (none : list_any is_over s.routes ≡ false) where
     pub with_config : (c : InterfaceConfig) → slice_get s.configured.interfaces i ≡ Some c
-        → (list_any (λ (r : RpRange). contains (subnet c) r.rp.bits) s.ranges
+        → (any_rp (contains (subnet c)) s.ranges
         || list_any (is_within (subnet c)) (fact_keys s)) ≡ may_lead_over s i
     unfolding may_lead_over
     with_config c is = rw (is, none) refl
@@ -34,7 +34,8 @@ module _ (s : State) (i : ℕ) where
         rw (
           is,
           none,
-          never (λ (r : RpRange). false) (λ r. refl) s.ranges,
+          never (λ (r : RpRange). false) (λ r. refl) s.ranges.static_ranges,
+          never (λ (c : RpCandidate). false) (λ c. refl) s.ranges.candidates,
           never (λ (k : Key). is_some k.source && false) (λ k. and_false (is_some k.source)) (fact_keys s),
         ) refl
 

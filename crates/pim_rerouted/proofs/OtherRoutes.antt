@@ -1,6 +1,6 @@
 -- What new routes move of a group, and that routes and RP ranges which are those there are move nothing.
 use Rattle.std.{proofs.{Common.{◌≡◌, ℕ, Bool, true, false, not, List, [], ◌∷◌, ◌++◌, Some, None, filter, map, refl, ap, subst, sym, ◌∙◌, eq-eqb}, lemmas.List.Concat.flat_map-cons}, specs.{Cmp.Derive.both_true, List.flat_map, Prelude.if◌then◌else◌}}
-use Rattle.pim_types.{specs.{declared.{config.{Route.Route, RpRange.RpRange}, fact.{Key.Key, RegisterRow.RegisterRow, RegisterState.RegisterState}}, Keys.{group_in, source_key, star_key}}}
+use Rattle.pim_types.{specs.{declared.{config.{Route.Route, RpTable.RpTable}, fact.{Key.Key, RegisterRow.RegisterRow, RegisterState.RegisterState}}, Keys.{group_in, source_key, star_key}}}
 use Rattle.pim_model.{specs.{Registers.registers_after_rps, Rows.{same_both, same_path}, State.State, Step.rps_replaced, Tables.{Table, same_option}, Unicast.{route, rp_of, rp_route}, Upstream.{fact_keys, groups_of, sources_of}}}
 use Rattle.law_events.{specs.{Moved.{keys_by_routes, keys_by_rps, moved_of_group, rerouted_sources}, Named.has_same_rp}, proofs.{Sights.{options_same, paths_same}, Differing.none_left}}
 use Rattle.pim_rerouted.{specs.OtherRoutes.{has_other_route, with_routes}}
@@ -76,9 +76,9 @@ module _ (s : State) where
       sym (ap (map (star_key 0)) (none_left (λ g. not (same_option (rp_of s g) (rp_of s g)))
       (λ g. ap not (options_same (rp_of s g) (rp_of s g) refl)) (groups_of (fact_keys s))))
 
-  pub none_by_same_rps : (ranges : List RpRange) → s.ranges ≡ ranges → [] ≡ keys_by_rps s (rps_replaced s ranges)
+  pub none_by_same_rps : (ranges : RpTable) → s.ranges ≡ ranges → [] ≡ keys_by_rps s (rps_replaced s ranges)
   none_by_same_rps ranges same =
-      subst (λ (rs : List RpRange). [] ≡ keys_by_rps s (rps_replaced s rs)) same none_by_rps
+      subst (λ (rs : RpTable). [] ≡ keys_by_rps s (rps_replaced s rs)) same none_by_rps
 
   registers_same : (t : Table RegisterRow)
       → map (λ (e : Key × RegisterRow). if same_option (rp_of s (group_in e.0)) (rp_of s (group_in e.0)) then e

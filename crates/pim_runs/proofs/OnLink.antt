@@ -3,7 +3,7 @@ use Rattle.std.{proofs.{Common.{◌≡◌, suc, ◌+◌, ◌*◌, ◌<◌, ◌�
 use Rattle.pim_types.{specs.declared.{event.Event.Event, fact.JoinTimerRow.JoinTimerRow}}
 use Rattle.pim_model.{specs.{declared.accepted.Accepted.Accepted, Full.is_full, Limits.config_test, Network.{At, Deliver, Move, Network, Station, moved, network_ran, station_at}, State.opening}}
 use Rattle.law_events.{proofs.Rest.{opening_is_at_rest, run_is_at_rest}}
-use Rattle.law_streams.{specs.{Joins.{Hears, IsWritable, join_packet, join_value}, InTimeJoins.{Always, AreThere, ComeInTime, IsCovered, IsJoin, IsReady, Wants, entry_of, frame_of, prunes_of, time_at}, Shared.{ComesFrom, IsOnLink, IsSeenFrom, IsTakenFrom, frame_from}}, proofs.{Timed.run_is_timed, Computed.{at_another, no_others, none_new, none_pruned, one_other, stand, stands_there, timely, with_station, with_timer}, Pairs.joins_are_shared, Shared.frames_come_to_both}}
+use Rattle.law_streams.{specs.{Joins.{Hears, IsWritable, join_packet, join_value}, InTimeJoins.{Always, AreThere, ComeInTime, IsCovered, IsJoin, IsReady, Wants, entry_of, frame_of, prunes_of, time_at}, Shared.{ComesFrom, IsOnLink, IsSeenFrom, IsTakenFrom, frame_from}}, proofs.{Timed.run_is_timed, Computed.{at_another, no_others, none_new, none_pruned, one_other, stand, stands_there, timely, with_station, with_timer}, Pairs.joins_are_shared, Shared.{all_above, frames_come_to_both}}}
 use Rattle.pim_runs.{specs.{Words.advance, ServedChain.{asked_group, first, second, station}, InTime.{joined, late, started}, OnLink.{JoinIsOverheardInTime, JoinIsSuppressed, SharedStaysHeld, first_asked, other_address, pair, second_joined, sent, shares, three}}, proofs.{InTime.its_group, OnLiterals.machine_on_literals}}
 
 abbrev nowhere : Station
@@ -228,6 +228,7 @@ shared_stays_held =
       upper_ready = second_ready;
       covered = covered;
       there = there;
-      in_time = frames_come_to_both joined asked_group late started sent pair three shares its_group (lit< tt) second_ready there join_is_overheard_in_time;
+      in_time = frames_come_to_both joined asked_group late started sent pair three shares its_group (lit< tt) second_ready
+          (all_above joined asked_group pair shares three there) join_is_overheard_in_time;
     })
     wants

@@ -1,9 +1,9 @@
 -- Tables, and the whole state.
-use Rattle.std.{proofs.{Common.{Some, ◌≡◌, ℕ, arith, Bool, true, false, cond, eqb, List, [], ◌∷◌, ◌++◌, ◌&&◌, ◌||◌, Ok, Err, refl, sym, ap, subst, ◌∙◌, append_assoc}, lemmas.{Bool.eqb-true, List.append-nil}}, specs.{List.{AllByRecursion, Sorted.IsStrictlySortedBy}, Ordering.is_lt, declared.cmp.Ordering.Ordering, Cmp.IsTotalOrder}}
+use Rattle.std.{proofs.{Common.{Some, ◌≡◌, ℕ, arith, Bool, true, false, cond, eqb, List, [], ◌∷◌, ◌++◌, ◌&&◌, ◌||◌, Ok, Err, refl, sym, ap, subst, ◌∙◌, append_assoc, Result}, lemmas.{Bool.eqb-true, List.append-nil}}, specs.{List.{AllByRecursion, Sorted.IsStrictlySortedBy}, Ordering.is_lt, declared.cmp.Ordering.Ordering, Cmp.IsTotalOrder}}
 use Rattle.pim_ip.{specs.declared.addr.Addr.Addr}
-use Rattle.pim_types.{specs.{FieldOrder.fields_total, Keys.{addr_cmp, key_cmp}, declared.fact.Key.Key}}
+use Rattle.pim_types.{specs.{FieldOrder.fields_total, Keys.{addr_cmp, key_cmp}, declared.{fact.Key.Key, config.RpCandidate.RpCandidate}}}
 use Rattle.pim_model.{specs.{State.State, Tables.{Table, keys_in}}}
-use Rattle.pim_saved.{specs.{declared.refusal.SavedRefusal.SavedRefusal, Crc.crc32, Fits.{FitsAddress, FitsEntry, FitsGround, FitsLink, FitsList, FitsRecord, FitsState, FitsTable, FitsTree, FitsWord}, Laws.{AreBytes, ReadingIsText, TextIsRead}, Parts.{ground_of, links_of, parts_of, records_of, state_of, trees_of}, Reading.{Reader, ◌>>=◌, address_at, addresses_at, addresses_by, at_end, ground_at, half_at, in_order, in_turn, is_version, key_at, links_at, list_at, made, magic_at, parts_at, reading, records_at, rise, rise_after, some_listed, table_at, trees_at, undamaged, version_at, word_at}, Text.{address_text, addresses_text, body_text, front_text, ground_text, half_text, links_text, list_text, magic, records_text, table_text, text, trees_text, version, version_with_addresses, word_text}}, proofs.{Summed.{is_summed, sum_fits, sum_of_front}, Spelled.{IsSpelled, Takes, Takes-then, bind_ok, both, half, list, made_of, moment, ok_is, passed, word}, SpelledRows.{address, asserted, downstream, group_record, group_repeat, interface, join_timer, key, neighbour, override_timer, querier, range, register, route, sending, settings, source, source_record, source_repeat, up}}}
+use Rattle.pim_saved.{specs.{declared.refusal.SavedRefusal.SavedRefusal, Crc.crc32, Fits.{FitsAddress, FitsCandidate, FitsEntry, FitsGround, FitsHead, FitsLink, FitsList, FitsRecord, FitsState, FitsTable, FitsTree, FitsWord}, Laws.{AreBytes, ReadingIsText, TextIsRead}, Parts.{HeadParts, ground_of, head_of, links_of, parts_of, records_of, state_of, trees_of}, Reading.{Reader, ◌>>=◌, address_at, addresses_by, at_end, candidate_at, ground_at, half_at, head_at, head_by, in_order, in_turn, is_version, key_at, links_at, list_at, made, magic_at, parts_at, reading, records_at, rise, rise_after, some_candidates, some_listed, table_at, trees_at, undamaged, version_at, word_at}, Text.{address_text, addresses_text, body_text, candidate_text, front_text, ground_text, half_text, head_text, links_text, list_text, magic, records_text, table_text, text, trees_text, version, version_with_addresses, version_with_candidates, versioned_text, word_text}}, proofs.{Summed.{is_summed, sum_fits, sum_of_front}, Spelled.{IsSpelled, Takes, Takes-then, bind_ok, both, half, list, made_of, moment, ok_is, passed, word}, SpelledRows.{address, asserted, candidate, downstream, group_record, group_repeat, interface, join_timer, key, neighbour, override_timer, querier, range, register, route, sending, settings, source, source_record, source_repeat, up}}}
 
 -- ---- keys that rise
 
@@ -105,14 +105,25 @@ third_again : (rest : List ℕ) → version_at (half_text version_with_addresses
 unfolding version_at
 third_again rest = rw (half.again version_with_addresses rest (omega arith)) refl
 
--- ---- the own addresses of no interface
+fourth_again : (rest : List ℕ) → version_at (half_text version_with_candidates ++ rest) ≡ Ok (version_with_candidates, rest)
+unfolding version_at
+fourth_again rest = rw (half.again version_with_candidates rest (omega arith)) refl
+
+-- ---- the own addresses of no interface, and the candidates
 
 listed : IsSpelled (FitsList FitsAddress) (list_text address_text) (list_at address_at)
 listed = list address
 
+candidates : IsSpelled (FitsList FitsCandidate) (list_text candidate_text) (list_at candidate_at)
+candidates = list candidate
+
 other_of : (b c : Bool) → b ≡ false → (b || c) ≡ true → c ≡ true
 other_of true c e f = cc
 other_of false c e f = f
+
+first_of : (b c : Bool) → c ≡ false → (b || c) ≡ true → b ≡ true
+first_of true c e f = refl
+first_of false c e f = cc
 
 module _ (bytes : List ℕ) (x : List Addr × List ℕ) where
   abbrev Spells : List Addr × List ℕ → Type 0
@@ -125,7 +136,8 @@ module _ (bytes : List ℕ) (x : List Addr × List ℕ) where
   some [] behind e t fits = absurd cc
   some (a ∷ more) behind e t fits = subst Spells (ok_is (a ∷ more, behind) x e) (t, fits)
 
-  by_version : (n : ℕ) (rest : List ℕ) (b : Bool) → eqb n version ≡ b → is_version n ≡ true → Takes bytes (half_text n) rest
+  by_version : (n : ℕ) (rest : List ℕ) (b : Bool) → eqb n version ≡ b
+      → (eqb n version || eqb n version_with_addresses) ≡ true → Takes bytes (half_text n) rest
       → addresses_by b rest ≡ Ok x → Spells x
   unfolding addresses_text
   by_version n rest true is known t e =
@@ -141,47 +153,100 @@ module _ (bytes : List ℕ) (x : List Addr × List ℕ) where
       (subst (λ (m : ℕ). Takes bytes (half_text m) rest) third t) behind.0)
       behind.1
 
-own_takes : (bytes : List ℕ) (x : List Addr × List ℕ) → AreBytes bytes → addresses_at bytes ≡ Ok x
-    → Takes bytes (addresses_text x.0) x.1 × FitsList FitsAddress x.0
-unfolding addresses_at
-own_takes bytes x fits e =
-    let v = bind_ok (version_at bytes) (λ v. addresses_by (eqb v.0 version) v.1) x e in
+module _ (bytes : List ℕ) (x : HeadParts × List ℕ) where
+  abbrev HeadSpells : HeadParts × List ℕ → Type 0
+  HeadSpells y = Takes bytes (head_text y.0) y.1 × FitsHead y.0
+
+  some_given : (addresses : List Addr) (given : List RpCandidate) (behind : List ℕ)
+      → some_candidates addresses given behind ≡ Ok x
+      → Takes bytes (half_text version_with_candidates ++ (list_text address_text addresses ++ list_text candidate_text given))
+      behind
+      → FitsHead (given, addresses) → HeadSpells x
+  unfolding versioned_text
+  some_given addresses [] behind e t fits = absurd cc
+  some_given addresses (c ∷ cs) behind e t fits = subst HeadSpells (ok_is ((c ∷ cs, addresses), behind) x e) (t, fits)
+
+  none_given : (a : List Addr × List ℕ) → Spells bytes a a → HeadSpells (([], a.0), a.1)
+  unfolding versioned_text
+  none_given a t = (t.0, ((omega arith, tt), t.1))
+
+  head_by_version : (n : ℕ) (rest : List ℕ) (b : Bool) → eqb n version_with_candidates ≡ b → is_version n ≡ true
+      → Takes bytes (half_text n) rest → head_by b n rest ≡ Ok x → HeadSpells x
+  head_by_version n rest true is known t e =
+      let a = bind_ok (list_at address_at rest) (λ a. list_at candidate_at a.1 >>= λ c. some_candidates a.0 c.0 c.1) x e in
+      let c = bind_ok (list_at candidate_at a.0.1) (λ c. some_candidates a.0.0 c.0 c.1) x a.2 in
+      let own = listed.takes rest a.0 t.rest_fits a.1 in
+      let behind = candidates.takes a.0.1 c.0 own.0.rest_fits c.1 in
+      some_given a.0.0 c.0.0 c.0.1 c.2
+      (Takes-then bytes (half_text version_with_candidates) rest
+      (list_text address_text a.0.0 ++ list_text candidate_text c.0.0) c.0.1
+      (subst (λ (m : ℕ). Takes bytes (half_text m) rest) (eqb-true n version_with_candidates is) t)
+      (Takes-then rest (list_text address_text a.0.0) a.0.1 (list_text candidate_text c.0.0) c.0.1 own.0 behind.0))
+      (behind.1, own.1)
+  head_by_version n rest false is known t e =
+      let a = bind_ok (addresses_by (eqb n version) rest) (λ a. Ok (([], a.0), a.1)) x e in
+      subst HeadSpells (ok_is (([], a.0.0), a.0.1) x a.2)
+      (none_given a.0
+      (by_version bytes a.0 n rest (eqb n version) refl
+      (first_of (eqb n version || eqb n version_with_addresses) (eqb n version_with_candidates) is known) t a.1))
+
+head_takes : (bytes : List ℕ) (x : HeadParts × List ℕ) → AreBytes bytes → head_at bytes ≡ Ok x
+    → Takes bytes (head_text x.0) x.1 × FitsHead x.0
+unfolding head_at
+head_takes bytes x fits e =
+    let v = bind_ok (version_at bytes) (λ v. head_by (eqb v.0 version_with_candidates) v.0 v.1) x e in
     let one = version_takes bytes v.0 fits v.1 in
-    by_version bytes x v.0.0 v.0.1 (eqb v.0.0 version) refl one.1 one.0 v.2
+    head_by_version bytes x v.0.0 v.0.1 (eqb v.0.0 version_with_candidates) refl one.1 one.0 v.2
 
-own_again : (given : List Addr) (rest : List ℕ) → FitsList FitsAddress given
-    → addresses_at (addresses_text given ++ rest) ≡ Ok (given, rest)
-unfolding addresses_at addresses_text
-own_again [] rest fits = rw (second_again rest) refl
-own_again (a ∷ more) rest fits =
+abbrev read_head : List ℕ → Result (HeadParts × List ℕ) SavedRefusal
+read_head bytes = version_at bytes >>= λ v. head_by (eqb v.0 version_with_candidates) v.0 v.1
+
+parts_again : (given : List RpCandidate) (own : List Addr) (rest : List ℕ) → FitsHead (given, own)
+    → head_at (versioned_text given own ++ rest) ≡ Ok ((given, own), rest)
+unfolding head_at versioned_text addresses_text
+parts_again [] [] rest fits = rw (second_again rest) refl
+parts_again [] (a ∷ more) rest fits =
     let text : List ℕ = list_text address_text (a ∷ more) in
-    ap (λ (bytes : List ℕ). version_at bytes >>= λ v. addresses_by (eqb v.0 version) v.1)
-    (append_assoc (half_text version_with_addresses) text rest)
-    ∙ rw (third_again (text ++ rest), listed.again (a ∷ more) rest fits) refl
+    ap read_head (append_assoc (half_text version_with_addresses) text rest)
+    ∙ rw (third_again (text ++ rest), listed.again (a ∷ more) rest fits.1) refl
+parts_again (c ∷ cs) own rest fits =
+    let first : List ℕ = list_text address_text own in
+    let second : List ℕ = list_text candidate_text (c ∷ cs) in
+    ap read_head (append_assoc (half_text version_with_candidates) (first ++ second) rest)
+    ∙ ap (λ (bytes : List ℕ). read_head (half_text version_with_candidates ++ bytes)) (append_assoc first second rest)
+    ∙ rw (fourth_again (first ++ (second ++ rest)), listed.again own (second ++ rest) fits.1, candidates.again (c ∷ cs) rest fits.0) refl
 
-own : IsSpelled (FitsList FitsAddress) addresses_text addresses_at
-own = record { takes = own_takes; again = own_again }
+head_again : (given : HeadParts) (rest : List ℕ) → FitsHead given → head_at (head_text given ++ rest) ≡ Ok (given, rest)
+head_again given rest fits = parts_again given.0 given.1 rest fits
+
+head : IsSpelled FitsHead head_text head_at
+head = record { takes = head_takes; again = head_again }
 
 -- the version is read before the sum is compared
-abbrev version_of : List Addr → ℕ
-version_of [] = version
-version_of (a ∷ more) = version_with_addresses
+abbrev version_of : List RpCandidate → List Addr → ℕ
+version_of [] [] = version
+version_of [] (a ∷ more) = version_with_addresses
+version_of (c ∷ cs) own = version_with_candidates
 
-abbrev behind_version : List Addr → List ℕ → List ℕ
-behind_version [] rest = rest
-behind_version (a ∷ more) rest = list_text address_text (a ∷ more) ++ rest
+abbrev behind_version : List RpCandidate → List Addr → List ℕ → List ℕ
+behind_version [] [] rest = rest
+behind_version [] (a ∷ more) rest = list_text address_text (a ∷ more) ++ rest
+behind_version (c ∷ cs) own rest = (list_text address_text own ++ list_text candidate_text (c ∷ cs)) ++ rest
 
-is_known : (given : List Addr) (rest : List ℕ)
-    → version_at (addresses_text given ++ rest) ≡ Ok (version_of given, behind_version given rest)
-unfolding addresses_text
-is_known [] rest = second_again rest
-is_known (a ∷ more) rest =
+is_known : (given : List RpCandidate) (own : List Addr) (rest : List ℕ)
+    → version_at (versioned_text given own ++ rest) ≡ Ok (version_of given own, behind_version given own rest)
+unfolding versioned_text addresses_text
+is_known [] [] rest = second_again rest
+is_known [] (a ∷ more) rest =
     let text : List ℕ = list_text address_text (a ∷ more) in
     ap version_at (append_assoc (half_text version_with_addresses) text rest) ∙ third_again (text ++ rest)
+is_known (c ∷ cs) own rest =
+    let text : List ℕ = list_text address_text own ++ list_text candidate_text (c ∷ cs) in
+    ap version_at (append_assoc (half_text version_with_candidates) text rest) ∙ fourth_again (text ++ rest)
 
 state : IsSpelled FitsState (λ (s : State). body_text s) (made state_of parts_at)
 unfolding body_text parts_at
-state = made_of state_of parts_of (λ p. refl) (λ s. refl) (both own (both ground (both links (both records trees))))
+state = made_of state_of parts_of (λ p. refl) (λ s. refl) (both head (both ground (both links (both records trees))))
 
 magic_takes : (bytes : List ℕ) (x : ℕ × List ℕ) → AreBytes bytes → magic_at bytes ≡ Ok x → Takes bytes (word_text x.0) x.1 × (x.0 ≡ magic)
 magic_takes bytes x fits e =
@@ -208,9 +273,9 @@ text_is_read s fits =
     ap magic_at (append_assoc (word_text magic) (body_text s) (word_text sum))
     ∙ ours.again magic (body_text s ++ word_text sum) refl in
     let known : version_at (body_text s ++ word_text sum)
-    ≡ Ok (version_of s.configured.addresses, behind_version s.configured.addresses (rest ++ word_text sum)) =
-    ap version_at (append_assoc (addresses_text s.configured.addresses) rest (word_text sum))
-    ∙ is_known s.configured.addresses (rest ++ word_text sum) in
+    ≡ Ok (version_of s.ranges.candidates s.configured.addresses, behind_version s.ranges.candidates s.configured.addresses (rest ++ word_text sum)) =
+    ap version_at (append_assoc (head_text (head_of s)) rest (word_text sum))
+    ∙ is_known s.ranges.candidates s.configured.addresses (rest ++ word_text sum) in
     let last : in_turn (made state_of parts_at) word_at (body_text s ++ word_text sum) ≡ Ok ((s, sum), []) =
     ap (in_turn (made state_of parts_at) word_at) (sym (append-nil (body_text s ++ word_text sum)))
     ∙ tail.again (s, sum) [] (fits, sum_fits (front_text s)) in

@@ -1,9 +1,9 @@
 -- Bytes read as a state from left to right, with the first fault that is met.
 use Rattle.std.{specs.{Int.{Width, byte_len, from_be_bytes, w16, w32, w64}, Option.option_map_or, Ordering.is_lt, Prelude.{Bool, Err, List, None, Ok, Option, Result, Some, [], drop, false, if◌then◌else◌, length, nat_lt, suc, take, true, zero, ℕ, ◌&&◌, ◌-◌, ◌==◌, ◌||◌, ◌∷◌}}}
 use Rattle.pim_ip.{specs.declared.{addr.{Addr.Addr, Prefix.Prefix}, lan.LanDelay.LanDelay}}
-use Rattle.pim_types.{specs.{Keys.key_cmp, declared.{config.{IfaceId.IfaceId, InterfaceConfig.InterfaceConfig, Route.Route, RpRange.RpRange, Settings.Settings, SptSwitch.SptSwitch}, fact.{AssertMetric.AssertMetric, AssertRole.AssertRole, AssertRow.AssertRow, DownstreamRow.DownstreamRow, GroupRecordRow.GroupRecordRow, GroupRepeatRow.GroupRepeatRow, InterfaceRow.InterfaceRow, JoinTimerRow.JoinTimerRow, Key.Key, NeighbourRow.NeighbourRow, OverrideTimerRow.OverrideTimerRow, QuerierRole.QuerierRole, QuerierRow.QuerierRow, RegisterRow.RegisterRow, RegisterState.RegisterState, SendingRow.SendingRow, SourceRecordRow.SourceRecordRow, SourceRepeatRow.SourceRepeatRow, SourceRow.SourceRow}}}}
+use Rattle.pim_types.{specs.{Keys.key_cmp, declared.{config.{IfaceId.IfaceId, InterfaceConfig.InterfaceConfig, Route.Route, RpCandidate.RpCandidate, RpRange.RpRange, Settings.Settings, SptSwitch.SptSwitch}, fact.{AssertMetric.AssertMetric, AssertRole.AssertRole, AssertRow.AssertRow, DownstreamRow.DownstreamRow, GroupRecordRow.GroupRecordRow, GroupRepeatRow.GroupRepeatRow, InterfaceRow.InterfaceRow, JoinTimerRow.JoinTimerRow, Key.Key, NeighbourRow.NeighbourRow, OverrideTimerRow.OverrideTimerRow, QuerierRole.QuerierRole, QuerierRow.QuerierRow, RegisterRow.RegisterRow, RegisterState.RegisterState, SendingRow.SendingRow, SourceRecordRow.SourceRecordRow, SourceRepeatRow.SourceRepeatRow, SourceRow.SourceRow}}}}
 use Rattle.pim_model.{specs.{State.State, Tables.{Table, keys_in}}}
-use Rattle.pim_saved.{specs.{Crc.crc32, Parts.{GroundParts, LinkParts, RecordParts, StateParts, TreeParts, state_of}, Text.{magic, version, version_with_addresses}, declared.refusal.SavedRefusal.SavedRefusal}}
+use Rattle.pim_saved.{specs.{Crc.crc32, Parts.{GroundParts, HeadParts, LinkParts, RecordParts, StateParts, TreeParts, state_of}, Text.{magic, version, version_with_addresses, version_with_candidates}, declared.refusal.SavedRefusal.SavedRefusal}}
 
 infixl 10 ◌>>=◌
 abbrev pub ◌>>=◌ : {A B : Type 0} → Result A SavedRefusal → (A → Result B SavedRefusal) → Result B SavedRefusal
@@ -124,6 +124,18 @@ route_at bytes =
 unfoldable pub range_at : Reader RpRange
 range_at bytes =
     made (λ (p : Prefix × Addr). record { prefix = p.0; rp = p.1 }) (in_turn prefix_at address_at) bytes
+
+unfoldable pub candidate_at : Reader RpCandidate
+candidate_at bytes =
+    made
+    (λ (p : Prefix × (Addr × (ℕ × ℕ))). record {
+      prefix = p.0;
+      rp = p.1.0;
+      priority = p.1.1.0;
+      hash_length = p.1.1.1;
+    })
+    (in_turn prefix_at (in_turn address_at (in_turn word_at word_at)))
+    bytes
 
 -- ---- rows
 
@@ -258,7 +270,7 @@ magic_at bytes = word_at bytes >>= λ m. if m.0 == magic then Ok m else Err Save
 
 -- a version that is read
 abbrev pub is_version : ℕ → Bool
-is_version n = (n == version) || (n == version_with_addresses)
+is_version n = ((n == version) || (n == version_with_addresses)) || (n == version_with_candidates)
 
 unfoldable pub version_at : Reader ℕ
 version_at bytes = half_at bytes >>= λ v. if is_version v.0 then Ok v else Err SavedRefusal.OtherVersion
@@ -273,8 +285,23 @@ abbrev pub addresses_by : Bool → Reader (List Addr)
 addresses_by true bytes = Ok ([], bytes)
 addresses_by false bytes = list_at address_at bytes >>= λ a. some_listed a.0 a.1
 
-unfoldable pub addresses_at : Reader (List Addr)
-addresses_at bytes = version_at bytes >>= λ v. addresses_by (v.0 == version) v.1
+-- version 4 has at least one candidate
+abbrev pub some_candidates : List Addr → List RpCandidate → List ℕ → Result (HeadParts × List ℕ) SavedRefusal
+some_candidates addresses [] rest = Err SavedRefusal.OutOfRange
+some_candidates addresses (c ∷ cs) rest = Ok ((c ∷ cs, addresses), rest)
+
+-- behind version 4 the own addresses and the candidates
+abbrev pub candidates_behind : Reader HeadParts
+candidates_behind bytes =
+    list_at address_at bytes >>= λ a. list_at candidate_at a.1 >>= λ c. some_candidates a.0 c.0 c.1
+
+-- what stands behind a version
+abbrev pub head_by : Bool → ℕ → Reader HeadParts
+head_by true n bytes = candidates_behind bytes
+head_by false n bytes = addresses_by (n == version) bytes >>= λ a. Ok (([], a.0), a.1)
+
+unfoldable pub head_at : Reader HeadParts
+head_at bytes = version_at bytes >>= λ v. head_by (v.0 == version_with_candidates) v.0 v.1
 
 unfoldable pub ground_at : Reader GroundParts
 ground_at bytes =
@@ -296,7 +323,7 @@ trees_at bytes =
     (table_at override_timer_at) (in_turn (table_at source_at) (table_at register_at))))) bytes
 
 unfoldable pub parts_at : Reader StateParts
-parts_at bytes = in_turn addresses_at (in_turn ground_at (in_turn links_at (in_turn records_at trees_at))) bytes
+parts_at bytes = in_turn head_at (in_turn ground_at (in_turn links_at (in_turn records_at trees_at))) bytes
 
 abbrev pub at_end : State → List ℕ → Result State SavedRefusal
 at_end s [] = Ok s

@@ -1,8 +1,8 @@
 -- Each record is read of its bytes, and of no others: of bytes, of each kind of call, and of records.
 use Rattle.std.{proofs.{Common.{◌≡◌, ℕ, ◌+◌, ◌≤◌, Bool, true, false, cond, eqb, ltb, List, [], ◌∷◌, ◌++◌, length, take, drop, Result, Ok, Err, refl, sym, ap, subst, ◌∙◌, append_assoc, arith, inl, inr, ◌⊎◌}, lemmas.{Bool.{eq-eqb, eqb-true, ltb-false, le-ltb}, List.{take_at, drop_at, take-append-drop, length-append, length-take, get_or-drop, Concat.flat_map-cons}}}, specs.List.{AllByRecursion, flat_map}}
 use Rattle.pim_ip.{specs.declared.addr.Addr.Addr}
-use Rattle.pim_types.{specs.declared.{config.{IfaceId.IfaceId, Route.Route, RpRange.RpRange}, event.EventKind.EventKind}}
-use Rattle.pim_saved.{specs.{Crc.crc32, declared.refusal.SavedRefusal.SavedRefusal, Fits.FitsWord, Laws.AreBytes, Reading.{Reader, iface_at, made, moment_at, word_at}, Text.{moment_text, word_text}}, proofs.{Spelled.{AreBytes-rest, IsSpelled, Takes, Takes-then, bind_ok, both, guard_ok, list, made_of, moment, ok_is, word}, SpelledRows.{address, interface, range, route, settings}, Summed.sum_fits}}
+use Rattle.pim_types.{specs.declared.{config.{IfaceId.IfaceId, Route.Route, RpRange.RpRange, RpCandidate.RpCandidate}, event.EventKind.EventKind}}
+use Rattle.pim_saved.{specs.{Crc.crc32, declared.refusal.SavedRefusal.SavedRefusal, Fits.FitsWord, Laws.AreBytes, Reading.{Reader, iface_at, made, moment_at, word_at}, Text.{moment_text, word_text}}, proofs.{Spelled.{AreBytes-rest, IsSpelled, Takes, Takes-then, bind_ok, both, guard_ok, list, made_of, moment, ok_is, word}, SpelledRows.{address, interface, range, route, settings, candidate}, Summed.sum_fits}}
 use Rattle.pim_anycast.{specs.declared.set.RpSet.RpSet}
 use Rattle.pim_saver.{specs.{Fits.{FitsAnswered, FitsBytes, FitsCall, FitsEvent, FitsRecord, FitsRpSet}, RecordLaws.{OneRecording, ReadingIsRecord, RecordIsRead}, Reading.{Configured, PlacedConfigured, answered_at, by_letter, bytes_at, bytes_of_length, call_at, drawn, front_at, kinds, record_at, rp_set_at, summed_at}, Records.{Call, Guard, Happened, Hosts, Kept, Placed, Record, Reloaded, Seen, Sets, Version, answered_text, bytes_text, call_text, event_text, front_text, record_text, rp_set_text}, declared.answered.Answered.Answered}}
 
@@ -73,22 +73,25 @@ taken = (
             (
               kind_takes (drawn (λ (ranges : List RpRange). EventKind.Rps ranges)) (both word (list range)) 103 (λ p. refl) (λ p f. f),
               (
-                kind_takes (λ (p : Configured). Reloaded p.0 p.1.0 p.1.1.0 p.1.1.1.0 p.1.1.1.1.0 p.1.1.1.1.1) (both word (both settings (both (list interface) (both (list address) (both (list route) (list range)))))) 99 (λ p. refl) (λ p f. f),
+                kind_takes (drawn (λ (candidates : List RpCandidate). EventKind.RpCandidates candidates)) (both word (list candidate)) 104 (λ p. refl) (λ p f. f),
                 (
-                  kind_takes (λ (p : PlacedConfigured). Placed p.0 p.1.0 p.1.1.0 p.1.1.1.0 p.1.1.1.1.0 p.1.1.1.1.1.0 p.1.1.1.1.1.1) (both word (both settings (both (list interface) (both (list address) (both (list route) (both (list range) (list word))))))) 109 (λ p. refl) (λ p f. f),
+                  kind_takes (λ (p : Configured). Reloaded p.0 p.1.0 p.1.1.0 p.1.1.1.0 p.1.1.1.1.0 p.1.1.1.1.1) (both word (both settings (both (list interface) (both (list address) (both (list route) (list range)))))) 99 (λ p. refl) (λ p f. f),
                   (
-                    kind_takes (λ (p : ℕ × (IfaceId × (Addr × Addr))). Seen p.0 p.1.0 p.1.1.0 p.1.1.1) (both word (both iface (both address address))) 115 (λ p. refl) (λ p f. f),
+                    kind_takes (λ (p : PlacedConfigured). Placed p.0 p.1.0 p.1.1.0 p.1.1.1.0 p.1.1.1.1.0 p.1.1.1.1.1.0 p.1.1.1.1.1.1) (both word (both settings (both (list interface) (both (list address) (both (list route) (both (list range) (list word))))))) 109 (λ p. refl) (λ p f. f),
                     (
-                      kind_takes (λ (p : Addr × (Addr × ℕ)). Kept p.0 p.1.0 p.1.1) (both address (both address moment)) 107 (λ p. refl) (λ p f. f),
+                      kind_takes (λ (p : ℕ × (IfaceId × (Addr × Addr))). Seen p.0 p.1.0 p.1.1.0 p.1.1.1) (both word (both iface (both address address))) 115 (λ p. refl) (λ p f. f),
                       (
-                        kind_takes (λ (p : IfaceId × ℕ). Hosts p.0 p.1) (both iface word) 111 (λ p. refl) (λ p f. f),
+                        kind_takes (λ (p : Addr × (Addr × ℕ)). Kept p.0 p.1.0 p.1.1) (both address (both address moment)) 107 (λ p. refl) (λ p f. f),
                         (
-                          kind_takes (λ (p : IfaceId × ℕ). Version p.0 p.1) (both iface word) 113 (λ p. refl) (λ p f. f),
+                          kind_takes (λ (p : IfaceId × ℕ). Hosts p.0 p.1) (both iface word) 111 (λ p. refl) (λ p f. f),
                           (
-                            kind_takes (λ (n : ℕ). Guard n) word 100 (λ n. refl) (λ n f. f),
+                            kind_takes (λ (p : IfaceId × ℕ). Version p.0 p.1) (both iface word) 113 (λ p. refl) (λ p f. f),
                             (
-                              kind_takes (λ (sets : List RpSet). Sets sets) (list rp_set) 121 (λ sets. refl) (λ sets f. f),
-                              tt,
+                              kind_takes (λ (n : ℕ). Guard n) word 100 (λ n. refl) (λ n f. f),
+                              (
+                                kind_takes (λ (sets : List RpSet). Sets sets) (list rp_set) 121 (λ sets. refl) (λ sets f. f),
+                                tt,
+                              ),
                             ),
                           ),
                         ),
@@ -129,6 +132,7 @@ event_again draw (EventKind.Up i) rest fits = kind_again (drawn (λ (i : IfaceId
 event_again draw (EventKind.Down i) rest fits = kind_again (drawn (λ (i : IfaceId). EventKind.Down i)) (both word iface) (draw, i) rest fits
 event_again draw (EventKind.Routes routes) rest fits = kind_again (drawn (λ (routes : List Route). EventKind.Routes routes)) (both word (list route)) (draw, routes) rest fits
 event_again draw (EventKind.Rps ranges) rest fits = kind_again (drawn (λ (ranges : List RpRange). EventKind.Rps ranges)) (both word (list range)) (draw, ranges) rest fits
+event_again draw (EventKind.RpCandidates candidates) rest fits = kind_again (drawn (λ (candidates : List RpCandidate). EventKind.RpCandidates candidates)) (both word (list candidate)) (draw, candidates) rest fits
 
 call_again : (c : Call) (rest : List ℕ) → FitsCall c → call_at (call_text c ++ rest) ≡ Ok (c, rest)
 call_again (Happened event) rest fits = event_again event.draw event.kind rest fits

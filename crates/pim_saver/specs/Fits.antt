@@ -1,7 +1,7 @@
 -- Whether what a record says fits the widths in which it is written.
 use Rattle.std.{specs.Prelude.{List, length, ℕ, ◌<◌, ◌^◌}}
 use Rattle.pim_types.{specs.declared.event.EventKind.EventKind}
-use Rattle.pim_saved.{specs.Fits.{FitsAddress, FitsInterface, FitsList, FitsMoment, FitsRange, FitsRoute, FitsSettings, FitsWord}}
+use Rattle.pim_saved.{specs.Fits.{FitsAddress, FitsCandidate, FitsInterface, FitsList, FitsMoment, FitsRange, FitsRoute, FitsSettings, FitsWord}}
 use Rattle.pim_anycast.{specs.declared.set.RpSet.RpSet}
 use Rattle.pim_saver.{specs.{Records.{Call, Guard, Happened, Hosts, Kept, Placed, Record, Reloaded, Seen, Sets, Version}, declared.answered.Answered.Answered}}
 
@@ -16,6 +16,7 @@ FitsEvent draw (EventKind.Up iface) = FitsWord draw × FitsWord iface.number
 FitsEvent draw (EventKind.Down iface) = FitsWord draw × FitsWord iface.number
 FitsEvent draw (EventKind.Routes routes) = FitsWord draw × FitsList FitsRoute routes
 FitsEvent draw (EventKind.Rps ranges) = FitsWord draw × FitsList FitsRange ranges
+FitsEvent draw (EventKind.RpCandidates candidates) = FitsWord draw × FitsList FitsCandidate candidates
 
 unfoldable pub FitsRpSet : RpSet → Type 0
 FitsRpSet set = FitsAddress set.shared × (FitsAddress set.own × FitsList FitsAddress set.others)

@@ -1,8 +1,8 @@
 -- A record read from the front of bytes.
 use Rattle.std.{specs.Prelude.{Err, List, Ok, [], drop, if◌then◌else◌, length, nat_lt, take, ℕ, ◌==◌, ◌∷◌}}
 use Rattle.pim_ip.{specs.declared.addr.Addr.Addr}
-use Rattle.pim_types.{specs.declared.{config.{IfaceId.IfaceId, InterfaceConfig.InterfaceConfig, Route.Route, RpRange.RpRange, Settings.Settings}, event.EventKind.EventKind}}
-use Rattle.pim_saved.{specs.{Crc.crc32, Reading.{Reader, address_at, iface_at, in_turn, interface_at, list_at, made, moment_at, range_at, route_at, settings_at, word_at, ◌>>=◌}, declared.refusal.SavedRefusal.SavedRefusal}}
+use Rattle.pim_types.{specs.declared.{config.{IfaceId.IfaceId, InterfaceConfig.InterfaceConfig, Route.Route, RpCandidate.RpCandidate, RpRange.RpRange, Settings.Settings}, event.EventKind.EventKind}}
+use Rattle.pim_saved.{specs.{Crc.crc32, Reading.{Reader, address_at, candidate_at, iface_at, in_turn, interface_at, list_at, made, moment_at, range_at, route_at, settings_at, word_at, ◌>>=◌}, declared.refusal.SavedRefusal.SavedRefusal}}
 use Rattle.pim_anycast.{specs.declared.set.RpSet.RpSet}
 use Rattle.pim_saver.{specs.{Records.{Call, Guard, Happened, Hosts, Kept, Placed, Record, Reloaded, Seen, Sets, Version, front_text}, declared.answered.Answered.Answered}}
 
@@ -43,6 +43,7 @@ kinds =
     ∷ (45, event_at (λ (i : IfaceId). EventKind.Down i) iface_at)
     ∷ (114, event_at (λ (routes : List Route). EventKind.Routes routes) (list_at route_at))
     ∷ (103, event_at (λ (ranges : List RpRange). EventKind.Rps ranges) (list_at range_at))
+    ∷ (104, event_at (λ (candidates : List RpCandidate). EventKind.RpCandidates candidates) (list_at candidate_at))
     ∷ (99, made (λ (p : Configured). Reloaded p.0 p.1.0 p.1.1.0 p.1.1.1.0 p.1.1.1.1.0 p.1.1.1.1.1) (in_turn word_at (in_turn settings_at (in_turn (list_at interface_at) (in_turn (list_at address_at) (in_turn (list_at route_at) (list_at range_at)))))))
     ∷ (109, made (λ (p : PlacedConfigured). Placed p.0 p.1.0 p.1.1.0 p.1.1.1.0 p.1.1.1.1.0 p.1.1.1.1.1.0 p.1.1.1.1.1.1) (in_turn word_at (in_turn settings_at (in_turn (list_at interface_at) (in_turn (list_at address_at) (in_turn (list_at route_at) (in_turn (list_at range_at) (list_at word_at))))))))
     ∷ (115, made (λ (p : ℕ × (IfaceId × (Addr × Addr))). Seen p.0 p.1.0 p.1.1.0 p.1.1.1) (in_turn word_at (in_turn iface_at (in_turn address_at address_at))))

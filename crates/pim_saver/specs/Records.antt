@@ -3,7 +3,7 @@
 use Rattle.std.{specs.{List.flat_map, Prelude.{List, [], length, ℕ, ◌∷◌}}}
 use Rattle.pim_ip.{specs.declared.addr.Addr.Addr}
 use Rattle.pim_types.{specs.declared.{config.{Config.Config, IfaceId.IfaceId, InterfaceConfig.InterfaceConfig, Route.Route, RpRange.RpRange, Settings.Settings}, event.{Event.Event, EventKind.EventKind}, outcome.Emission.Emission}}
-use Rattle.pim_saved.{specs.{Crc.{after_bytes, crc32}, Text.{address_text, interface_text, list_text, moment_text, range_text, route_text, settings_text, word_text, ◌then◌}}}
+use Rattle.pim_saved.{specs.{Crc.{after_bytes, crc32}, Text.{address_text, candidate_text, interface_text, list_text, moment_text, range_text, route_text, settings_text, word_text, ◌then◌}}}
 use Rattle.pim_anycast.{specs.declared.set.RpSet.RpSet}
 use Rattle.pim_saver.{specs.declared.answered.Answered.Answered}
 
@@ -66,6 +66,8 @@ event_text draw (EventKind.Up iface) = 43 ∷ (word_text draw then word_text ifa
 event_text draw (EventKind.Down iface) = 45 ∷ (word_text draw then word_text iface.number)
 event_text draw (EventKind.Routes routes) = 114 ∷ (word_text draw then list_text route_text routes)
 event_text draw (EventKind.Rps ranges) = 103 ∷ (word_text draw then list_text range_text ranges)
+event_text draw (EventKind.RpCandidates candidates) =
+    104 ∷ (word_text draw then list_text candidate_text candidates)
 
 -- the bytes of a call in a record
 abbrev pub call_text : Call → List ℕ

@@ -1,13 +1,13 @@
 //! Configured values.
-ghost use Rattle.pim_saved.specs.Fits.{FitsInterface, FitsPrefix, FitsRange, FitsRoute, FitsSettings};
-ghost use Rattle.pim_saved.specs.Reading.{interface_at, prefix_at, range_at, route_at, settings_at};
-ghost use Rattle.pim_saved.specs.Text.{interface_text, prefix_text, range_text, route_text, settings_text};
+ghost use Rattle.pim_saved.specs.Fits.{FitsCandidate, FitsInterface, FitsPrefix, FitsRange, FitsRoute, FitsSettings};
+ghost use Rattle.pim_saved.specs.Reading.{candidate_at, interface_at, prefix_at, range_at, route_at, settings_at};
+ghost use Rattle.pim_saved.specs.Text.{candidate_text, interface_text, prefix_text, range_text, route_text, settings_text};
 ghost use Rattle.std.specs.Prelude.{◌≡◌, ◌++◌, OnOk};
 
 use crate::saved::Saved;
 use pim_ip::{Addr, Prefix};
 use pim_saved::SavedRefusal;
-use pim_types::{IfaceId, InterfaceConfig, Route, RpRange, Settings, SptSwitch};
+use pim_types::{IfaceId, InterfaceConfig, Route, RpCandidate, RpRange, Settings, SptSwitch};
 use std::alloc::AllocError;
 
 impl Saved for InterfaceConfig {
@@ -125,6 +125,40 @@ impl Saved for RpRange {
         let (prefix, rest) = Prefix::read(bytes)?;
         let (rp, rest) = Addr::read(rest)?;
         Ok((RpRange { prefix, rp }, rest))
+    }
+}
+
+impl Saved for RpCandidate {
+    ghost text = { candidate_text };
+
+    ghost reading = { candidate_at };
+
+    ghost fits = { FitsCandidate };
+
+    #[tactic(auto, unfolding(pim_saved::specs::Text::candidate_text))]
+    fn write(self, out: &mut Vec<u8>) -> Result<(), AllocError> {
+        self.prefix.write(out)?;
+        self.rp.write(out)?;
+        self.priority.write(out)?;
+        self.hash_length.write(out)?;
+        Ok(())
+    }
+
+    #[tactic(auto, unfolding(pim_saved::specs::Reading::candidate_at))]
+    fn read(bytes: &[u8]) -> Result<(RpCandidate, &[u8]), SavedRefusal> {
+        let (prefix, rest) = Prefix::read(bytes)?;
+        let (rp, rest) = Addr::read(rest)?;
+        let (priority, rest) = u32::read(rest)?;
+        let (hash_length, rest) = u32::read(rest)?;
+        Ok((
+            RpCandidate {
+                prefix,
+                rp,
+                priority,
+                hash_length,
+            },
+            rest,
+        ))
     }
 }
 

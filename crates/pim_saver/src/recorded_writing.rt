@@ -10,7 +10,7 @@ ghost use Rattle.std.specs.Prelude.{◌≡◌, ◌++◌, OnOk};
 use crate::answered::Answered;
 use crate::{Saved, write_list, write_sum};
 use pim_anycast::RpSet;
-use pim_types::{Addr, Config, IfaceId, InterfaceConfig, Route, RpRange, Settings};
+use pim_types::{Addr, Config, IfaceId, InterfaceConfig, Route, RpCandidate, RpRange, Settings};
 use std::alloc::AllocError;
 
 // Puts the number of bytes at the end, and each byte.
@@ -148,6 +148,23 @@ pub fn write_ranges(
     out.push(b'g')?;
     draw.write(out)?;
     write_list(ranges, out)?;
+    answered.write(out)?;
+    Ok(())
+}
+
+/// Puts the record of new candidate RPs behind what is there.
+pub fn write_candidates(
+    draw: u32,
+    candidates: &[RpCandidate],
+    answered: Answered,
+    out: &mut Vec<u8>,
+) -> Result<(), AllocError>
+    ensures ok { OnOk result (out.new.items ≡ out.old.items ++ front_text (event_record draw (EventValue.RpCandidates candidates.now) answered)) }
+    ensures fitting { OnOk result (FitsRecord (event_record draw (EventValue.RpCandidates candidates.now) answered)) }
+{
+    out.push(b'h')?;
+    draw.write(out)?;
+    write_list(candidates, out)?;
     answered.write(out)?;
     Ok(())
 }

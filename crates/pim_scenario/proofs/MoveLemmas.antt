@@ -1,14 +1,14 @@
 -- Moves go by the names of the routers alone.
 use Rattle.std.{proofs.Common.{inl, inr, ◌≡◌, ℕ, Bool, List, [], ◌∷◌, map, codes, Option, Some, None, sym, ap, refl, ◌∙◌}, specs.{List.{AllZip, position}, Prelude.{string_bytes, option_and_then}, Str.bytes_eq}}
 use Rattle.toml.{specs.Data.{Data, Members, as_table}}
-use Rattle.pim_types.{specs.declared.{config.{Route.Route, RpRange.RpRange}, event.EventKind.EventKind}}
-use Rattle.pim_scenario.{specs.{declared.scenario.{ConfigText.ConfigText, ScenarioMove.{ScenarioMove, TheVariants.{Event, Deliver, Carry, Reload, Restart}}, RouterText.RouterText, Scenario.Scenario}, Fields.{text_at, table_at, list_at, list_or_empty}, Scenario.{AreRouteWords, AreRouters, AreRpWords, IsCarry, IsConfigText, IsDeliver, IsEvent, IsKind, IsMove, IsReload, IsRestart, IsRouter, IsRoutes, IsRps, IsScenario, IsTable, IsText, WritesPlace, place_of}}, proofs.{LinkLemmas.position-map, ReadLemmas.{the_same, zip_weaker}}}
+use Rattle.pim_types.{specs.declared.{config.{Route.Route, RpCandidate.RpCandidate, RpRange.RpRange}, event.EventKind.EventKind}}
+use Rattle.pim_scenario.{specs.{declared.scenario.{ConfigText.ConfigText, ScenarioMove.{ScenarioMove, TheVariants.{Event, Deliver, Carry, Reload, Restart}}, RouterText.RouterText, Scenario.Scenario}, Fields.{text_at, table_at, list_at, list_or_empty}, Scenario.{AreCandidateWords, AreRouteWords, AreRouters, AreRpWords, IsCandidates, IsCarry, IsConfigText, IsDeliver, IsEvent, IsKind, IsMove, IsReload, IsRestart, IsRouter, IsRoutes, IsRps, IsScenario, IsTable, IsText, WritesPlace, place_of}}, proofs.{LinkLemmas.position-map, ReadLemmas.{the_same, zip_weaker}}}
 
 pub kind_of : (routers : List RouterText) (ms : Members) (m : ScenarioMove) → IsEvent routers ms m → (k : EventKind) × IsKind ms k
 kind_of routers ms (Event router e) is = (e.kind, is.2)
 kind_of routers ms m is = absurd is
 
--- the list of a move that replaces routes, or RP ranges
+-- the list of a move that replaces routes, RP ranges, or candidates
 pub routes_of : (ms : Members) (ds : List Data) → Some ds ≡ list_at (codes "list") ms → (kind : EventKind)
     → IsRoutes ms kind → (routes : List Route) × AllZip (IsText AreRouteWords) ds routes
 routes_of ms ds at (EventKind.Routes routes) is =
@@ -20,6 +20,12 @@ pub rps_of : (ms : Members) (ds : List Data) → Some ds ≡ list_at (codes "lis
 rps_of ms ds at (EventKind.Rps rps) is =
     (rps, rw (the_same (list_at (codes "list") ms) ds is.1.0 at is.1.1) is.1.2)
 rps_of ms ds at kind is = absurd is
+
+pub candidates_of : (ms : Members) (ds : List Data) → Some ds ≡ list_at (codes "list") ms → (kind : EventKind)
+    → IsCandidates ms kind → (candidates : List RpCandidate) × AllZip (IsText AreCandidateWords) ds candidates
+candidates_of ms ds at (EventKind.RpCandidates candidates) is =
+    (candidates, rw (the_same (list_at (codes "list") ms) ds is.1.0 at is.1.1) is.1.2)
+candidates_of ms ds at kind is = absurd is
 
 -- the configuration of a reload
 pub config_of : (routers : List RouterText) (ms inner : Members) → Some inner ≡ table_at (codes "config") ms

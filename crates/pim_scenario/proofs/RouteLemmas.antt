@@ -1,10 +1,10 @@
--- The text of an address, the five words of a route, and those of a set of RPs.
+-- The text of an address, the five words of a route, the four of a candidate RP, and those of a set of RPs.
 use Rattle.std.{proofs.{Common.{ℕ, suc, zero, List, [], ◌∷◌, ◌++◌, ◌+◌, ◌<◌, ◌≤◌, ◌≡◌, arith, drop, get_or, length, map, refl, subst, sym, take}, lemmas.List.take_all}, specs.{Borrow.Bor, List.AllZip, Prelude.{Err, None, Option, Result, Some}, Result.IsErrAnd}}
 use Rattle.toml.{specs.Data.{Data, as_str}}
 use Rattle.pim_ip.{specs.declared.addr.Addr.Addr}
-use Rattle.pim_types.{specs.declared.config.Route.Route}
+use Rattle.pim_types.{specs.declared.config.{Route.Route, RpCandidate.RpCandidate}}
 use Rattle.pim_anycast.{specs.declared.set.RpSet.RpSet}
-use Rattle.pim_scenario.{specs.{Scenario.{AreRouteWords, AreSetWords, IsPlaceText, IsRouteOf, WritesAddress, WritesPlace}, Texts.{IsAddressText, ReadsExactly}, declared.scenario.Unread.{Unread, TheVariants.Wrong}}, proofs.ReadLemmas.{fails, not_both, the_same, wrong, zip_at, zip_kept}}
+use Rattle.pim_scenario.{specs.{Scenario.{AreCandidateWords, AreRouteWords, AreSetWords, IsCandidateOf, IsPlaceText, IsRouteOf, WritesAddress, WritesPlace}, Texts.{IsAddressText, ReadsExactly}, declared.scenario.Unread.{Unread, TheVariants.Wrong}}, proofs.ReadLemmas.{fails, not_both, the_same, wrong, zip_at, zip_kept}}
 
 -- a value that is no text writes no address
 pub other_text : (d : Data) → None ≡ as_str d → (a : Addr) → WritesAddress d a → ⊥
@@ -34,6 +34,16 @@ five_words d (a ∷ b ∷ c ∷ []) r say = absurd say
 five_words d (a ∷ b ∷ c ∷ e ∷ []) r say = absurd say
 five_words d (a ∷ b ∷ c ∷ e ∷ f ∷ []) r say = say
 five_words d (a ∷ b ∷ c ∷ e ∷ f ∷ g ∷ ws) r say = absurd say
+
+pub four_words : (d : Bor (List ℕ)) (ws : List (Bor (List ℕ))) (r : RpCandidate)
+    → AreCandidateWords (map (λ (w : Bor (List ℕ)). w.now) ws) r
+    → IsCandidateOf (get_or ws 0 d).now (get_or ws 1 d).now (get_or ws 2 d).now (get_or ws 3 d).now r
+four_words d [] r say = absurd say
+four_words d (a ∷ []) r say = absurd say
+four_words d (a ∷ b ∷ []) r say = absurd say
+four_words d (a ∷ b ∷ c ∷ []) r say = absurd say
+four_words d (a ∷ b ∷ c ∷ e ∷ []) r say = say
+four_words d (a ∷ b ∷ c ∷ e ∷ f ∷ ws) r say = absurd say
 
 -- the words behind the first two of a set are its others
 other_words : (ws : List (Bor (List ℕ))) (n : ℕ) (s : RpSet) → length ws ≤ n + 2

@@ -1,6 +1,6 @@
 -- The values at the keys of a table of a scenario.
 use Rattle.std.{specs.{Prelude.{ℕ, ℤ, pos, negsuc, ◌^◌, Bool, List, [], ◌∷◌, Option, Some, None, option_map, option_and_then, if◌then◌else◌, nat_lt}, List.{list_all, list_any}, Str.bytes_eq}}
-use Rattle.toml.{specs.Data.{Data, Items, no_items, item, Members, no_members, member, get_member, as_str, as_integer, as_array, as_table}}
+use Rattle.toml.{specs.Data.{Data, Items, no_items, item, Members, no_members, member, get_member, as_bool, as_str, as_integer, as_array, as_table}}
 
 -- A number from 0 and below 2^32.
 abbrev pub number_of_integer : ℤ → Option ℕ
@@ -49,6 +49,9 @@ read_or read default (Some d) = read d
 
 abbrev pub number_or : ℕ → List ℕ → Members → Option ℕ
 number_or default key ms = read_or number_in default (get_member key ms)
+
+abbrev pub flag_or : Bool → List ℕ → Members → Option Bool
+flag_or default key ms = read_or as_bool default (get_member key ms)
 
 abbrev pub list_or_empty : List ℕ → Members → Option (List Data)
 list_or_empty key ms = read_or list_of [] (get_member key ms)

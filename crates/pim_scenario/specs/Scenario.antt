@@ -1,11 +1,11 @@
 -- What a document has to say for a scenario to be read from it.
-use Rattle.std.{specs.{Prelude.{◌≡◌, ◌≢◌, ◌≤◌, ◌++◌, ◌⊎◌, ℕ, Bool, true, false, String, List, [], ◌∷◌, codes, length, Option, Some, None, option_and_then, option_map, if◌then◌else◌, string_bytes, position, ◌==◌}, List.{All, AllPairs, AllZip, fold}, Option.is_some, Str.bytes_eq}}
+use Rattle.std.{specs.{Prelude.{◌≡◌, ◌≢◌, ◌≤◌, ◌++◌, ◌⊎◌, ℕ, Bool, true, false, String, List, [], ◌∷◌, codes, length, Option, Some, None, option_and_then, option_map, if◌then◌else◌, nat_le, string_bytes, position, ◌==◌, ◌&&◌}, List.{All, AllPairs, AllZip, fold}, Option.is_some, Str.bytes_eq}}
 use Rattle.toml.{specs.{Parse.parse_document, Data.{Data, Members, as_str, as_table}}}
 use Rattle.pim_ip.{specs.declared.addr.Addr.Addr}
-use Rattle.pim_types.{specs.declared.{config.{Config.Config, InterfaceConfig.InterfaceConfig, Route.Route, RpRange.RpRange, SptSwitch.{SptSwitch, TheVariants.{Always, Never}}}, event.EventKind.EventKind}}
+use Rattle.pim_types.{specs.declared.{config.{Config.Config, InterfaceConfig.InterfaceConfig, Route.Route, RpCandidate.RpCandidate, RpRange.RpRange, SptSwitch.{SptSwitch, TheVariants.{Always, Never}}}, event.EventKind.EventKind}}
 use Rattle.igmp_older.{specs.declared.setting.{OlderHosts.OlderHosts, QueryVersion.QueryVersion}}
 use Rattle.pim_anycast.{specs.declared.set.RpSet.RpSet}
-use Rattle.pim_scenario.{specs.{declared.scenario.{ConfigText.ConfigText, FrontText.FrontText, Link.Link, RouterText.RouterText, ScenarioMove.{ScenarioMove, TheVariants.{Event, Deliver, Carry, Reload, Restart, Settle}}, Scenario.Scenario}, Fields.{has_only, table_at, text_at, optional_text, number_at, number_or, moment_at, list_at, list_or_empty}, Texts.{IsNumberText, IsAddressText, IsPrefixText, hex_of}, Words.AreWords}}
+use Rattle.pim_scenario.{specs.{declared.scenario.{ConfigText.ConfigText, FrontText.FrontText, Link.Link, RouterText.RouterText, ScenarioMove.{ScenarioMove, TheVariants.{Event, Deliver, Carry, Reload, Restart, Settle}}, Scenario.Scenario}, Fields.{has_only, table_at, text_at, optional_text, number_at, number_or, flag_or, moment_at, list_at, list_or_empty}, Texts.{IsNumberText, IsAddressText, IsPrefixText, hex_of}, Words.AreWords}}
 use Rattle.pim_types.specs.declared.event.EventKind.TheVariants as event
 
 -- ---- own addresses, routes and RP ranges
@@ -41,6 +41,18 @@ AreRouteWords _ r = ⊥
 abbrev pub AreRpWords : List (List ℕ) → RpRange → Type 0
 AreRpWords (prefix ∷ rp ∷ []) r = IsPrefixText prefix r.prefix × IsAddressText rp r.rp
 AreRpWords _ r = ⊥
+
+-- `prefix rp priority mask`
+pub record IsCandidateOf (prefix rp priority mask : List ℕ) (c : RpCandidate) : Type 0 where
+  pub prefix_text : IsPrefixText prefix c.prefix
+  pub rp_text : IsAddressText rp c.rp
+  pub priority_text : IsNumberText priority c.priority
+  pub mask_text : IsNumberText mask c.hash_length
+
+-- The four words of a candidate RP: prefix, RP, priority, length of the hash mask.
+abbrev pub AreCandidateWords : List (List ℕ) → RpCandidate → Type 0
+AreCandidateWords (prefix ∷ rp ∷ priority ∷ mask ∷ []) c = IsCandidateOf prefix rp priority mask c
+AreCandidateWords _ c = ⊥
 
 -- `shared own other ..`, with any number of others
 abbrev pub AreSetWords : List (List ℕ) → RpSet → Type 0
@@ -130,19 +142,38 @@ guard_named (Some name) =
 abbrev pub guard_at : Members → Option Bool
 guard_at ms = option_and_then guard_named (optional_text (codes "guard") ms)
 
+-- a limit on the RPs that are kept
+abbrev pub rp_limit_numbered : ℕ → Option ℕ
+rp_limit_numbered n = if nat_le 1 n && nat_le n 256 then Some n else None
+
+abbrev pub rp_limit_at : Members → Option ℕ
+rp_limit_at ms = option_and_then rp_limit_numbered (number_or 256 (codes "rp_limit") ms)
+
+-- whether Bootstraps are heard
+abbrev pub bsr_at : Members → Option Bool
+bsr_at ms = flag_or false (codes "bsr") ms
+
 -- what stands before a router
 abbrev pub front_at : Members → Option FrontText
 front_at ms =
     option_and_then (λ hosts.
     option_and_then (λ version.
-    option_map (λ guard. record { older_hosts = hosts; query_version = version; guard = guard })
-    (guard_at ms)) (query_version_at ms)) (older_hosts_at ms)
+    option_and_then (λ guard.
+    option_and_then (λ bsr.
+    option_map (λ limit. record {
+      older_hosts = hosts;
+      query_version = version;
+      guard = guard;
+      bsr = bsr;
+      rp_limit = limit;
+    })
+    (rp_limit_at ms)) (bsr_at ms)) (guard_at ms)) (query_version_at ms)) (older_hosts_at ms)
 
 abbrev pub router_keys : List (List ℕ)
 router_keys =
     codes "name" ∷ codes "iface" ∷ codes "limit" ∷ codes "spt" ∷ codes "rv" ∷ codes "qi" ∷ codes "qri"
     ∷ codes "lmqi" ∷ codes "older_hosts" ∷ codes "query_version" ∷ codes "guard"
-    ∷ codes "anycast" ∷ codes "addresses" ∷ codes "routes" ∷ codes "rps" ∷ []
+    ∷ codes "anycast" ∷ codes "bsr" ∷ codes "rp_limit" ∷ codes "addresses" ∷ codes "routes" ∷ codes "rps" ∷ []
 
 -- A table `router` is a router with its name, its links and its configuration.
 pub record IsRouter (ms : Members) (r : RouterText) : Type 0 where
@@ -160,8 +191,8 @@ pub record IsRouter (ms : Members) (r : RouterText) : Type 0 where
 abbrev pub config_keys : List (List ℕ)
 config_keys =
     codes "iface" ∷ codes "limit" ∷ codes "spt" ∷ codes "rv" ∷ codes "qi" ∷ codes "qri" ∷ codes "lmqi"
-    ∷ codes "older_hosts" ∷ codes "query_version" ∷ codes "guard" ∷ codes "anycast" ∷ codes "addresses"
-    ∷ codes "routes" ∷ codes "rps" ∷ []
+    ∷ codes "older_hosts" ∷ codes "query_version" ∷ codes "guard" ∷ codes "anycast" ∷ codes "bsr"
+    ∷ codes "rp_limit" ∷ codes "addresses" ∷ codes "routes" ∷ codes "rps" ∷ []
 
 abbrev pub NamesLink : {Z : Type 0} → Members → String Z → Type 0
 NamesLink ms name = text_at (codes "link") ms ≡ Some (string_bytes name)
@@ -286,6 +317,12 @@ IsRps ms (event.Rps rps) =
     (has_only list_keys ms ≡ true) × AreRead (IsText AreRpWords) (list_at (codes "list") ms) rps
 IsRps ms _ = ⊥
 
+-- A table `move` is an event that brings new candidate RPs.
+abbrev pub IsCandidates : Members → EventKind → Type 0
+IsCandidates ms (event.RpCandidates candidates) =
+    (has_only list_keys ms ≡ true) × AreRead (IsText AreCandidateWords) (list_at (codes "list") ms) candidates
+IsCandidates ms _ = ⊥
+
 -- A table `move` is a packet that comes on an interface.
 abbrev pub IsFrame : Members → EventKind → Type 0
 IsFrame ms (event.Frame iface bytes) =
@@ -309,8 +346,9 @@ IsKind ms kind =
     ⊎ (IsNamed (codes "down") IsDown ms kind
     ⊎ (IsNamed (codes "routes") IsRoutes ms kind
     ⊎ (IsNamed (codes "rps") IsRps ms kind
+    ⊎ (IsNamed (codes "candidates") IsCandidates ms kind
     ⊎ (IsNamed (codes "frame") IsFrame ms kind
-    ⊎ IsNamed (codes "unicast") IsUnicast ms kind)))))
+    ⊎ IsNamed (codes "unicast") IsUnicast ms kind))))))
 
 -- the place of the router that the move names
 abbrev pub router_at : List RouterText → Members → Option ℕ

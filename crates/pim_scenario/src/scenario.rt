@@ -42,6 +42,15 @@ pub struct FrontText {
     pub query_version: QueryVersion,
     /// Whether a guard stops IGMP and PIM that would be forwarded as data.
     pub guard: bool,
+    /// Whether Bootstraps (RFC 5059) are heard.
+    pub bsr: bool,
+    /// How many of the RPs that they say are kept at most, from 1 to 256.
+    pub rp_limit: u32,
+}
+
+impl FrontText {
+    /// How many RP ranges a router takes.
+    pub const MOST_RPS: u32 = 256;
 }
 
 /// A router of a scenario.

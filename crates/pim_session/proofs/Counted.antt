@@ -3,7 +3,7 @@
 use Rattle.std.{specs.{Option.option_map_or}, proofs.{Common.{◌≡◌, ◌∙◌, ◌++◌, ◌+◌, ◌-◌, ◌<◌, ◌^◌, ◌&&◌, ◌==◌, ap, refl, sym, subst, arith, ℕ, Bool, true, false, not, nat_lt, cond, List, [], drop, length, slice_range, take, Option, Some, None, option_map, Result, Ok, Err, if◌then◌else◌}, lemmas.List.{append-nil, take_at}}}
 use Rattle.byteorder.{specs.Numbers.big_number-reads_back}
 use Rattle.pim_ip.{specs.{Checksum.with_checksum, Ipv4.{Packet, header_text, ipv4_reading, packet_of, pim_packet_text, protocol_pim, total_length_of}, declared.refusal.Refusal.Refusal}}
-use Rattle.pim_types.{specs.declared.{config.RpRange.RpRange, event.{Event.Event, EventKind.EventKind}}}
+use Rattle.pim_types.{specs.declared.{config.RpTable.RpTable, event.{Event.Event, EventKind.EventKind}}}
 use Rattle.pim_wire.{specs.{Messages.pim_reading, RegisterParts.registered_group, declared.view.PimView.PimView}}
 use Rattle.pim_model.{specs.State.State}
 use Rattle.law_settled.{proofs.ReadPackets.{packet_is, passed as read_passed}}
@@ -59,7 +59,7 @@ module _ (time_to_live source destination : ℕ) (message : List ℕ) where
 
 -- ---- a packet as the sets give it
 
-module _ (sets : List RpSet) (ranges : List RpRange) (bytes : List ℕ) (whole : is_unicast_stopped bytes ≡ false) where
+module _ (sets : List RpSet) (ranges : RpTable) (bytes : List ℕ) (whole : is_unicast_stopped bytes ≡ false) where
   module _ (p : Packet) (plain : is_message_stopped (pim_reading p.payload) ≡ false) where
     set_passes : (set : RpSet) → is_unicast_stopped (bytes_given (passed_by set p) bytes) ≡ false
     unfolding passed_by counted_text
@@ -112,3 +112,4 @@ kind_passes sets s (EventKind.Up i) passed = refl
 kind_passes sets s (EventKind.Down i) passed = refl
 kind_passes sets s (EventKind.Routes routes) passed = refl
 kind_passes sets s (EventKind.Rps rps) passed = refl
+kind_passes sets s (EventKind.RpCandidates candidates) passed = refl

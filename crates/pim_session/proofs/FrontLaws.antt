@@ -52,6 +52,7 @@ after_hosts b after (EventKind.Unicast bytes) = refl
 after_hosts b after (EventKind.Up i) = refl
 after_hosts b after (EventKind.Routes routes) = refl
 after_hosts b after (EventKind.Rps rps) = refl
+after_hosts b after (EventKind.RpCandidates candidates) = refl
 
 if_hosts : (b : FrontedRouter) (after : State) (kind : EventKind) (answer : Result Verdict Refusal) → (known_if b after kind answer).hosts ≡ b.present.hosts
 unfolding known_if
@@ -81,6 +82,7 @@ kind_same f p (EventKind.Up i) e = refl
 kind_same f p (EventKind.Down i) e = refl
 kind_same f p (EventKind.Routes routes) e = refl
 kind_same f p (EventKind.Rps rps) e = refl
+kind_same f p (EventKind.RpCandidates candidates) e = refl
 
 abbrev event_with : Event → EventKind → Event
 event_with e kind = record e { kind = kind }

@@ -132,6 +132,7 @@ kind_passes f s (EventKind.Up i) passed = refl
 kind_passes f s (EventKind.Down i) passed = refl
 kind_passes f s (EventKind.Routes routes) passed = refl
 kind_passes f s (EventKind.Rps rps) passed = refl
+kind_passes f s (EventKind.RpCandidates candidates) passed = refl
 
 given_passes : (front : Option Front) (s : State) (e : Event) → is_kind_stopped e.kind ≡ false
     → is_kind_stopped (given front s e).kind ≡ false

@@ -1,8 +1,8 @@
 -- What a router makes of an event behind all that stands before it.
 use Rattle.std.{specs.{Option.option_map_or, Prelude.option_and_then}, proofs.{Common.{◌≡◌, ◌∙◌, ◌++◌, ◌&&◌, ◌||◌, ◌⊎◌, ◌/◌, inl, inr, ap, refl, sym, subst, ℕ, Bool, true, false, is_some, nat_lt, not, List, [], ◌∷◌, Option, Some, None, Result, Ok, Err, IfOk, IfSome, IsTrue, if◌then◌else◌, arith}, lemmas.{Bool.Decides.nat_tests, List.append-nil}}}
 use Rattle.pim_ip.{specs.{Ipv4.{Packet, ipv4_reading, is_source_specific}, Prefixes.longest_match, declared.refusal.Refusal.Refusal}}
-use Rattle.pim_types.{specs.declared.{config.RpRange.RpRange, event.{Event.Event, EventKind.EventKind}, fact.Key.Key, outcome.{Emission.Emission, Verdict.Verdict}}}
-use Rattle.pim_model.{specs.{State.{State, is_own, is_own_among}, Step.{Answered, step}, Sure.needs_no_memory, Tables.is_empty_list, Unicast.{rp_among, rp_of}, Writing.unicast_time_to_live}}
+use Rattle.pim_types.{specs.declared.{config.RpTable.RpTable, event.{Event.Event, EventKind.EventKind}, fact.Key.Key, outcome.{Emission.Emission, Verdict.Verdict}}}
+use Rattle.pim_model.{specs.{State.{State, is_own, is_own_among}, Step.{Answered, step}, Sure.needs_no_memory, Tables.is_empty_list, Unicast.{rp_among, rp_of, no_ranges}, Writing.unicast_time_to_live, Candidates.chosen_among}}
 use Rattle.pim_wire.{specs.Registers.null_register_text}
 use Rattle.law_settled.{proofs.UnchangedLaws.{ignored_unchanged, refused_unchanged}}
 use Rattle.pim_router.{specs.{Standing.{Shown as RouterShown, Standing}, Stepped.Stepped}}
@@ -11,8 +11,8 @@ use Rattle.pim_session.{specs.{Behind.SteppedBehind, Front.{Front, emissions_lea
 
 -- ---- what the router is asked
 
-abbrev pub ranges_in : Option Standing → List RpRange
-ranges_in o = option_map_or (λ r. r.state.ranges) o []
+abbrev pub ranges_in : Option Standing → RpTable
+ranges_in o = option_map_or (λ r. r.state.ranges) o no_ranges
 
 abbrev pub local_in : Option Standing → ℕ → ℕ → Bool
 local_in o g src = option_map_or (λ r. is_local r.state g src) o false
@@ -38,7 +38,7 @@ none_either true = refl
 none_either false = refl
 
 pub rp_told : (o : Option Standing) (g : ℕ) → option_and_then (λ r. rp_of r.state g) o ≡ rp_among (ranges_in o) g
-unfolding rp_of rp_among longest_match
+unfolding rp_of rp_among longest_match chosen_among
 rp_told None g = none_either (is_source_specific g)
 rp_told (Some r) g = refl
 
@@ -126,6 +126,7 @@ frame_reached sets front s draw (EventKind.Up i) bytes answered left sent leavin
 frame_reached sets front s draw (EventKind.Down i) bytes answered left sent leaving after brings stepped leaves = absurd brings
 frame_reached sets front s draw (EventKind.Routes routes) bytes answered left sent leaving after brings stepped leaves = absurd brings
 frame_reached sets front s draw (EventKind.Rps rps) bytes answered left sent leaving after brings stepped leaves = absurd brings
+frame_reached sets front s draw (EventKind.RpCandidates candidates) bytes answered left sent leaving after brings stepped leaves = absurd brings
 
 pub frame_took : (o : Option Standing) (sets : List RpSet) (front : Option Front) (e : Event) (bytes : List ℕ) (p : Packet)
     (answered : Result Verdict Refusal) (left : RouterShown) (leaving : List Emission) (after : Option Front)
@@ -170,6 +171,7 @@ advance_reached sets front s draw (EventKind.Up i) answered left sent leaving af
 advance_reached sets front s draw (EventKind.Down i) answered left sent leaving after is stepped leaves = cc
 advance_reached sets front s draw (EventKind.Routes routes) answered left sent leaving after is stepped leaves = cc
 advance_reached sets front s draw (EventKind.Rps rps) answered left sent leaving after is stepped leaves = cc
+advance_reached sets front s draw (EventKind.RpCandidates candidates) answered left sent leaving after is stepped leaves = cc
 
 pub advance_took : (o : Option Standing) (sets : List RpSet) (front : Option Front) (e : Event) (before : ℕ)
     (answered : Result Verdict Refusal) (left : RouterShown) (sent more leaving : List Emission) (after : Option Front)
@@ -210,6 +212,9 @@ pass_reached (set ∷ sets) front s draw (EventKind.Routes routes) answered left
     reached (set ∷ sets) front s e answered left sent sent after stepped (sym (append-nil sent))
 pass_reached (set ∷ sets) front s draw (EventKind.Rps rps) answered left sent after is stepped =
     let e : Event = record { draw = draw; kind = EventKind.Rps rps } in
+    reached (set ∷ sets) front s e answered left sent sent after stepped (sym (append-nil sent))
+pass_reached (set ∷ sets) front s draw (EventKind.RpCandidates candidates) answered left sent after is stepped =
+    let e : Event = record { draw = draw; kind = EventKind.RpCandidates candidates } in
     reached (set ∷ sets) front s e answered left sent sent after stepped (sym (append-nil sent))
 pass_reached (set ∷ sets) front s draw (EventKind.Frame i bytes) answered left sent after is stepped = cc
 pass_reached (set ∷ sets) front s draw (EventKind.Advance moment) answered left sent after is stepped = cc
@@ -308,7 +313,7 @@ silent front s e answered left sent after stepped sure =
     stepped.sent ∙ ap (emissions_leaving front) (stays_by front s e sure).1 ∙ none_leave front
 
 -- a source of which a packet changes nothing isn't announced anew
-none_anew : (sets : List RpSet) (ranges : List RpRange) (here : Bool) (g : ℕ)
+none_anew : (sets : List RpSet) (ranges : RpTable) (here : Bool) (g : ℕ)
     → (is_announced sets ranges here g || not (is_announced sets ranges here g)) ≡ true
 none_anew sets ranges here g = go (is_announced sets ranges here g)
   where
@@ -316,7 +321,7 @@ none_anew sets ranges here g = go (is_announced sets ranges here g)
     go true = refl
     go false = refl
 
-none_sent : (sets : List RpSet) (ranges : List RpRange) (here : Bool) (g src : ℕ)
+none_sent : (sets : List RpSet) (ranges : RpTable) (here : Bool) (g src : ℕ)
     → announced_new sets ranges (is_announced sets ranges here g) here g src ≡ []
 unfolding announced_new is_announced announced
 none_sent sets ranges here g src = go here (set_for sets ranges g)
@@ -411,6 +416,7 @@ same_kind sets s (EventKind.Up i) e = refl
 same_kind sets s (EventKind.Down i) e = refl
 same_kind sets s (EventKind.Routes routes) e = refl
 same_kind sets s (EventKind.Rps rps) e = refl
+same_kind sets s (EventKind.RpCandidates candidates) e = refl
 
 abbrev with_kind : ℕ → EventKind → Event
 with_kind draw kind = record { draw = draw; kind = kind }
@@ -432,6 +438,7 @@ frame_other bytes (EventKind.Up i) e = absurd e
 frame_other bytes (EventKind.Down i) e = absurd e
 frame_other bytes (EventKind.Routes routes) e = absurd e
 frame_other bytes (EventKind.Rps rps) e = absurd e
+frame_other bytes (EventKind.RpCandidates candidates) e = absurd e
 
 pub frame_surely : (o : Option Standing) (sets : List RpSet) (front : Option Front) (e : Event) (bytes : List ℕ) (B : Type 0)
     → BringsFrame bytes e.kind
@@ -447,6 +454,7 @@ advance_other (EventKind.Up i) e = cc
 advance_other (EventKind.Down i) e = cc
 advance_other (EventKind.Routes routes) e = cc
 advance_other (EventKind.Rps rps) e = cc
+advance_other (EventKind.RpCandidates candidates) e = cc
 
 pub advance_surely : (o : Option Standing) (sets : List RpSet) (front : Option Front) (e : Event) (B : Type 0)
     → is_advance e.kind ≡ true
@@ -474,7 +482,7 @@ still_surely (Some r) sets front e before answered left sent after B kind was st
     ∙ ap (λ (o : Option Standing). is_due r.state.present (present_in o)) stepped.took.state
     ∙ ap (λ (t : State). is_due r.state.present t.present) (stays_by front r.state e sure).0 ∙ not_due r.state.present))
 
-pub none_due_so : (sets : List RpSet) (ranges : List RpRange) (keys : List Key) (before present : ℕ) (more : List Emission)
+pub none_due_so : (sets : List RpSet) (ranges : RpTable) (keys : List Key) (before present : ℕ) (more : List Emission)
     → more ≡ announced_due sets ranges keys before present → is_due before present ≡ false → more ≡ []
 unfolding announced_due
 none_due_so sets ranges keys before present more is due =
@@ -490,6 +498,7 @@ passed_same (set ∷ sets) s (EventKind.Up i) e = same_kind (set ∷ sets) s (Ev
 passed_same (set ∷ sets) s (EventKind.Down i) e = same_kind (set ∷ sets) s (EventKind.Down i) refl
 passed_same (set ∷ sets) s (EventKind.Routes routes) e = same_kind (set ∷ sets) s (EventKind.Routes routes) refl
 passed_same (set ∷ sets) s (EventKind.Rps rps) e = same_kind (set ∷ sets) s (EventKind.Rps rps) refl
+passed_same (set ∷ sets) s (EventKind.RpCandidates candidates) e = same_kind (set ∷ sets) s (EventKind.RpCandidates candidates) refl
 
 pub pass_surely : (o : Option Standing) (sets : List RpSet) (front : Option Front) (e : Event) (B : Type 0)
     → (is_empty_list sets || is_unshared e.kind) ≡ true

@@ -140,6 +140,7 @@ is_frame (EventKind.Up i) = false
 is_frame (EventKind.Down i) = false
 is_frame (EventKind.Routes routes) = false
 is_frame (EventKind.Rps rps) = false
+is_frame (EventKind.RpCandidates candidates) = false
 
 -- it is given as it is
 given_same : (f : Front) (s : State) (draw : ℕ) (kind : EventKind) → is_frame kind ≡ false
@@ -152,6 +153,7 @@ given_same f s draw (EventKind.Up i) e = refl
 given_same f s draw (EventKind.Down i) e = refl
 given_same f s draw (EventKind.Routes routes) e = refl
 given_same f s draw (EventKind.Rps rps) e = refl
+given_same f s draw (EventKind.RpCandidates candidates) e = refl
 
 kind_same : (f : Front) (kind : EventKind) → is_frame kind ≡ false → kind ≡ kind_queried f kind
 unfolding kind_queried
@@ -162,6 +164,7 @@ kind_same f (EventKind.Up i) e = refl
 kind_same f (EventKind.Down i) e = refl
 kind_same f (EventKind.Routes routes) e = refl
 kind_same f (EventKind.Rps rps) e = refl
+kind_same f (EventKind.RpCandidates candidates) e = refl
 
 other_took : (o : Option Standing) (f : Front) (e : Event) (before : List Emission) (answered : Result Verdict Refusal) (shown : RouterShown) (after : List Emission) (p : Present) (known : Front)
     → known ≡ with_present f p → is_frame e.kind ≡ false → IfSome o (λ r. Stepped r.state e before answered shown after)
@@ -231,6 +234,7 @@ plain_knows f s after (EventKind.Unicast bytes) (Ok Verdict.Done) e = refl
 plain_knows f s after (EventKind.Up i) (Ok Verdict.Done) e = refl
 plain_knows f s after (EventKind.Routes routes) (Ok Verdict.Done) e = refl
 plain_knows f s after (EventKind.Rps rps) (Ok Verdict.Done) e = refl
+plain_knows f s after (EventKind.RpCandidates candidates) (Ok Verdict.Done) e = refl
 
 plain_frame : (kind : EventKind) → is_plain kind ≡ true → is_frame kind ≡ false
 plain_frame (EventKind.Frame i bytes) e = cc
@@ -240,6 +244,7 @@ plain_frame (EventKind.Up i) e = refl
 plain_frame (EventKind.Down i) e = refl
 plain_frame (EventKind.Routes routes) e = refl
 plain_frame (EventKind.Rps rps) e = refl
+plain_frame (EventKind.RpCandidates candidates) e = refl
 
 pub plain_took : (o : Option Standing) (f : Front) (e : Event) (before : List Emission) (answered : Result Verdict Refusal) (shown : RouterShown) (after : List Emission)
     → is_plain e.kind ≡ true → IfSome o (λ r. Stepped r.state e before answered shown after)

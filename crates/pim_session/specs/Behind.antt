@@ -31,6 +31,7 @@ is_plain (EventKind.Unicast bytes) = true
 is_plain (EventKind.Up i) = true
 is_plain (EventKind.Routes routes) = true
 is_plain (EventKind.Rps rps) = true
+is_plain (EventKind.RpCandidates candidates) = true
 
 abbrev pub is_done : Result Verdict Refusal → Bool
 is_done (Ok Verdict.Done) = true

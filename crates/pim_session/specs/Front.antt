@@ -42,6 +42,7 @@ kind_queried f (EventKind.Up i) = EventKind.Up i
 kind_queried f (EventKind.Down i) = EventKind.Down i
 kind_queried f (EventKind.Routes routes) = EventKind.Routes routes
 kind_queried f (EventKind.Rps rps) = EventKind.Rps rps
+kind_queried f (EventKind.RpCandidates candidates) = EventKind.RpCandidates candidates
 
 -- an event with an older query as one of version 3
 abbrev pub event_queried : Front → Event → Event

@@ -59,6 +59,7 @@ is_unshared (EventKind.Up i) = true
 is_unshared (EventKind.Down i) = true
 is_unshared (EventKind.Routes routes) = true
 is_unshared (EventKind.Rps rps) = true
+is_unshared (EventKind.RpCandidates candidates) = true
 
 -- The Null-Registers that leave for a packet of a source, by the states before and after its event.
 unfoldable pub name_announced : List RpSet → (s t : State) → (g src : ℕ) → List Emission

@@ -66,12 +66,13 @@ impl<'a> OwnAddresses for Asked<'a> {
 
 impl<'a> Rendezvous for Asked<'a> {
     ghost use Rattle.pim_anycast.specs.Announced.{is_local, local_keys};
+    ghost use Rattle.pim_model.specs.Unicast.{no_ranges};
     ghost use Rattle.std.specs.Option.{option_map_or};
     ghost use Rattle.std.specs.Prelude.{[], false};
 
     ghost present = { λ q. option_map_or (λ r. r.state.present) q.standing 0 };
 
-    ghost ranges = { λ q. option_map_or (λ r. r.state.ranges) q.standing [] };
+    ghost ranges = { λ q. option_map_or (λ r. r.state.ranges) q.standing no_ranges };
 
     ghost is_local = { λ q g src. option_map_or (λ r. is_local r.state g src) q.standing false };
 

@@ -195,7 +195,8 @@ fn take(
         LentKind::Unicast { .. }
         | LentKind::Up { .. }
         | LentKind::Routes { .. }
-        | LentKind::Rps { .. } => pass(router, front, event, sent),
+        | LentKind::Rps { .. }
+        | LentKind::RpCandidates { .. } => pass(router, front, event, sent),
     }
 }
 

@@ -207,7 +207,8 @@ pub(crate) fn step(
         LentKind::Up { .. }
         | LentKind::Down { .. }
         | LentKind::Routes { .. }
-        | LentKind::Rps { .. } => pass(router, front, anycast, event),
+        | LentKind::Rps { .. }
+        | LentKind::RpCandidates { .. } => pass(router, front, anycast, event),
     }
 }
 

@@ -4,7 +4,7 @@ use Rattle.pim_ip.{specs.{declared.{addr.Addr.Addr, refusal.Refusal.Refusal}, Ip
 use Rattle.pim_types.{specs.declared.config.{Config.Config, InterfaceConfig.InterfaceConfig, Settings.Settings}}
 use Rattle.pim_model.{specs.{Limits.{are_apart, are_own_addresses, are_routes, are_rps, config_test, is_between, is_delay_config, is_querier_config, most_ifaces}, State.{addressing_of, opening, settings_of, InterfaceTable}}}
 use Rattle.pim_ifaces.{specs.Interfaces.{delays_test, interfaces_test}}
-use Rattle.pim_mrib.{specs.Routes.RouteTable}
+use Rattle.pim_mrib.{specs.Routes.{RouteTable, table_of}}
 use Rattle.pim_state.{specs.Configurations.{settings_test, without_facts}}
 
 ten : (a b c d e f g h i j : Bool)
@@ -94,7 +94,7 @@ own_from_given c xs own b d is e f g = rw (← f, ← g) (sym is ∙ e)
 
 pub opens : (c : Config) (settings : Settings) (interfaces : InterfaceTable) (mrib : RouteTable)
     → settings ≡ settings_of c → interfaces ≡ record { configured = addressing_of c; rows = [] }
-    → mrib ≡ record { routes = c.routes; ranges = c.rps } → without_facts settings interfaces mrib ≡ opening c
+    → mrib ≡ record { routes = c.routes; ranges = table_of c.rps [] } → without_facts settings interfaces mrib ≡ opening c
 unfolding opening
 opens c settings interfaces mrib a b d = rw (a, b, d) refl
 

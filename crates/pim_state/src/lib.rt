@@ -18,7 +18,6 @@ pub mod unicast;
 pub mod world;
 
 pub use pim_trie::Meter;
-pub use routes::table_of_ranges;
 pub use touched::Touched;
 pub use turn::Turn;
 pub use world::World;

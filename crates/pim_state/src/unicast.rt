@@ -1,8 +1,9 @@
 //! Unicast routes and RPs in the present state (RFC 7761, section 4.1.5).
 ghost use Rattle.std.specs.List.{list_any};
-ghost use Rattle.std.specs.Prelude.{◌≡◌, ◌==◌, ℕ, option_map};
+ghost use Rattle.std.specs.Prelude.{◌≡◌, ◌==◌, ℕ, option_map, true};
 ghost use Rattle.pim_ip.specs.Prefixes.{contains};
-ghost use Rattle.pim_model.specs.Unicast.{is_rp, route, rp_of, rp_route};
+ghost use Rattle.pim_model.specs.Limits.{are_candidates};
+ghost use Rattle.pim_model.specs.Unicast.{any_rp, is_rp, route, rp_of, rp_route};
 ghost use Rattle.pim_mrib.specs.Routes.{rp_nodes};
 ghost use Rattle.pim_trie.specs.Meter.{raised};
 ghost use Rattle.pim_state.specs.Short.{IsShort};
@@ -10,7 +11,7 @@ ghost use Rattle.pim_state.specs.Short.{IsShort};
 use crate::world::World;
 use pim_ip::Prefix;
 use pim_trie::Meter;
-use pim_types::{Addr, IfaceId, Path};
+use pim_types::{Addr, IfaceId, Path, RpCandidate, RpRange};
 
 impl World {
     /// RP(G): none of a source-specific group. The meter rises by the nodes visited, 33 at most.
@@ -59,9 +60,9 @@ impl World {
         self.mrib.is_next_hop(address)
     }
 
-    /// Whether a range has the address as its RP.
+    /// Whether the address is the RP of a range or a candidate.
     pub fn is_some_rp(&self, address: Addr) -> bool
-        ensures { result ≡ list_any (λ range. range.rp.bits == address.bits) self.now.ranges }
+        ensures { result ≡ any_rp (λ rp. rp == address.bits) self.now.ranges }
     {
         self.mrib.is_some_rp(address)
     }
@@ -73,14 +74,19 @@ impl World {
         self.mrib.routes().iter().any(|route| route.iface == iface)
     }
 
-    /// Whether a range has its RP in the prefix.
+    /// Whether a range or a candidate has its RP in the prefix.
     pub fn has_rp_in(&self, prefix: Prefix) -> bool
-        ensures { result ≡ list_any (λ range. contains prefix range.rp.bits) self.now.ranges }
+        ensures { result ≡ any_rp (contains prefix) self.now.ranges }
     {
-        self.mrib
-            .ranges()
-            .iter()
-            .any(|range| prefix.contains(range.rp))
+        has_range_rp_in(self.mrib.static_ranges(), prefix)
+            || has_candidate_rp_in(self.mrib.candidates(), prefix)
+    }
+
+    /// For the proof: the candidates are accepted.
+    pub fn proof_candidates(&self)
+        ensures { are_candidates self.now.ranges.candidates ≡ true }
+    {
+        self.mrib.proof_candidates();
     }
 
     /// For the proof: the preferences of all routes have 31 bits.
@@ -90,4 +96,20 @@ impl World {
     {
         self.mrib.proof_short_preferences();
     }
+}
+
+// Whether a range has its RP in the prefix.
+fn has_range_rp_in(ranges: &[RpRange], prefix: Prefix) -> bool
+    ensures { result ≡ list_any (λ range. contains prefix range.rp.bits) ranges.now }
+{
+    ranges.iter().any(|range| prefix.contains(range.rp))
+}
+
+// Whether a candidate has its RP in the prefix.
+fn has_candidate_rp_in(candidates: &[RpCandidate], prefix: Prefix) -> bool
+    ensures { result ≡ list_any (λ candidate. contains prefix candidate.rp.bits) candidates.now }
+{
+    candidates
+        .iter()
+        .any(|candidate| prefix.contains(candidate.rp))
 }

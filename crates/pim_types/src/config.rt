@@ -83,6 +83,35 @@ pub struct RpRange {
     pub rp: Addr,
 }
 
+/// An RP of a range of groups, where several may be RPs of one range: for each group one of them is chosen (RFC 7761,
+/// section 4.7.1).
+#[derive(Clone, Copy)]
+pub struct RpCandidate {
+    pub prefix: Prefix,
+    pub rp: Addr,
+    /// The RP's priority for the range, at most 255; the lower number is preferred.
+    pub priority: u32,
+    /// The length of the mask of the hash function (section 4.7.2), at most 32.
+    pub hash_length: u32,
+}
+
+/// What RP(G) is chosen from.
+pub struct RpTable {
+    /// The RP ranges, each of which has one RP.
+    pub static_ranges: Series<RpRange>,
+    pub candidates: Series<RpCandidate>,
+}
+
+// Written out, so that it is proved once (docs/PROOF_NOTES.md, Drops).
+impl Drop for RpTable {
+    fn drop(self) {
+        let RpTable {
+            static_ranges: _,
+            candidates: _,
+        } = self;
+    }
+}
+
 /// The configuration that a router is made of.
 pub struct Config {
     /// The interfaces in the order of their numbers, 1 to 120.

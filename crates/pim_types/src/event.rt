@@ -1,5 +1,5 @@
 //! What happens to a router.
-use crate::config::{IfaceId, Route, RpRange};
+use crate::config::{IfaceId, Route, RpCandidate, RpRange};
 use crate::series::Series;
 
 /// What happens to a router in one step.
@@ -19,6 +19,8 @@ pub enum EventKind {
     Routes { routes: Series<Route> },
     /// The RP ranges are replaced.
     Rps { rps: Series<RpRange> },
+    /// The candidate RPs are replaced. A new router has none.
+    RpCandidates { candidates: Series<RpCandidate> },
 }
 
 /// An event, with the number from which its random delays are drawn.

@@ -14,7 +14,9 @@ pub mod series;
 pub mod timer;
 pub mod upstream;
 
-pub use config::{Config, IfaceId, InterfaceConfig, Route, RpRange, Settings, SptSwitch};
+pub use config::{
+    Config, IfaceId, InterfaceConfig, Route, RpCandidate, RpRange, RpTable, Settings, SptSwitch,
+};
 pub use event::{Event, EventKind};
 pub use fact::Key;
 pub use name::SourceGroup;

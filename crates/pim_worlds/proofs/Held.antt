@@ -1,7 +1,7 @@
 -- A world can have the facts of another at places that lead within its configuration.
 use Rattle.std.{proofs.{Common.{◌≡◌, ◌≤◌, ◌^◌, ◌&&◌, ◌==◌, ◌∙◌, ℕ, Bool, true, false, List, not, length, nat_lt, Ok, Option, Some, None, refl, sym, ap, subst}}, specs.{List.list_all, Option.option_map_or, Prelude.{IfSome, is_none, is_some}}}
 use Rattle.pim_types.{specs.{Keys.{group_in, iface_in}, declared.{config.Config.Config, fact.Key.Key}}}
-use Rattle.pim_model.{specs.{Limits.config_test, State.{State, iface_count, settings_of}, Tables.Table}}
+use Rattle.pim_model.{specs.{Limits.{config_test, are_candidates}, State.{State, iface_count, settings_of}, Tables.Table}}
 use Rattle.pim_ifaces.{specs.Interfaces.is_up_key}
 use Rattle.law_settled.{specs.Ready.IsOrdered, proofs.{ListLaws.{each_of_list, list_of_each}, RisingKeys.sorted_of_up}}
 use Rattle.law_states.{specs.{Reload.config_of, Placing.{placed_key, number_at, placed, placed_under}}, proofs.Rows.{each_placed, up_placed}}
@@ -112,12 +112,12 @@ module _ (s : State) (places : List ℕ) (c : Config) where
         (both _ _ (all_placed (λ x. store.is_assert_key x.0) (λ x. store.is_assert_key x.0) (λ x held. assert_goes x.0 held) s.asserts (first _ _ a))
         (second _ _ a))
 
-    pub placed_held : config_test c ≡ Ok tt → list_all (λ e. is_up_key (iface_count s) e.0) s.interfaces ≡ true
+    pub placed_held : config_test c ≡ Ok tt → are_candidates s.ranges.candidates ≡ true → list_all (λ e. is_up_key (iface_count s) e.0) s.interfaces ≡ true
         → membership.are_of_kind (membership_tables s) ≡ true → store.are_of_kind (store.pim_tables s) ≡ true
         → s.present ≤ 2 ^ 62 → 2 ≤ c.robustness → c.robustness ≤ 7 → c.query_interval ≤ 31744 → can_hold there ≡ true
     unfolding placed_under config_of settings_of
-    placed_held accepted up records trees present least most interval =
-        taken there accepted (ups_held up) (records_held records) (trees_held trees) present least most interval
+    placed_held accepted candidates up records trees present least most interval =
+        taken there accepted candidates (ups_held up) (records_held records) (trees_held trees) present least most interval
 
 -- ---- what is made of them
 

@@ -3,7 +3,7 @@ use Rattle.std.{proofs.Common.{◌≡◌, ◌&&◌, ◌∙◌, Bool, true, false
 use Rattle.pim_ip.{specs.{Tests.{expect, ◌>>◌}, declared.refusal.Refusal.Refusal}}
 use Rattle.pim_ifaces.{specs.Interfaces.{interfaces_test, is_up_key}}
 use Rattle.law_events.{specs.Locality.IsQuiet}
-use Rattle.pim_model.{specs.{Limits.{are_own_addresses, are_routes, are_rps, config_test}, State.State}}
+use Rattle.pim_model.{specs.{Limits.{are_candidates, are_own_addresses, are_routes, are_rps, config_test}, State.State}}
 use Rattle.law_settled.{specs.Ready.IsOrdered}
 use Rattle.pim_worlds.{specs.{Rows.can_hold, Settled.is_settled, Resuming.{IsResumable, ResumableIsDecided, SavedIsResumed, are_settings_accepted, is_quiet, read_test, resume_test}, declared.refusal.RestoreRefusal.RestoreRefusal}, proofs.SettledTests.settled_is_decided}
 use Rattle.law_states.{specs.{Reload.config_of, Resting.all_pass, NearStates.is_near}}
@@ -58,15 +58,16 @@ module _ (s : State) where
       let split = halves ((is_ok (interfaces_test s.configured.interfaces) && are_own_addresses s.configured) && up) _ held in
       let tables = split.1 in
       let addresses = (halves (is_ok (interfaces_test s.configured.interfaces)) _ (halves _ up split.0).0).1 in
-      let mrib = halves (are_routes s.configured s.routes) (are_rps s.ranges) (halves _ _ tables).0 in
-      all_accepted (config_of s) (is_done (settings_test (config_of s)) settings) mrib.0 mrib.1 addresses
+      let mrib = halves (are_routes s.configured s.routes) _ (halves _ _ tables).0 in
+      let ranges = halves (are_rps s.ranges.static_ranges) (are_candidates s.ranges.candidates) mrib.1 in
+      all_accepted (config_of s) (is_done (settings_test (config_of s)) settings) mrib.0 ranges.0 addresses
 
   settings_so : config_test (config_of s) ≡ Ok tt → are_settings_accepted s ≡ true
   unfolding config_of
   settings_so accepted =
       ap is_ok (first (settings_test (config_of s))
       (expect (are_routes s.configured s.routes) Refusal.ConfiguredRoutes
-      >> expect (are_rps s.ranges) Refusal.ConfiguredRps
+      >> expect (are_rps s.ranges.static_ranges) Refusal.ConfiguredRps
       >> expect (are_own_addresses s.configured) Refusal.OwnAddresses) (sym (in_two_parts (config_of s)) ∙ accepted))
 
 -- ---- all tests

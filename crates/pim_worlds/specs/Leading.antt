@@ -12,7 +12,7 @@ pub record LeadWithin (places : List ℕ) (old new : ℕ) : Type 0 where
 
 -- the present of a state, with what another is configured with
 abbrev pub with_ground : State → State → GroundParts
-with_ground s next = (next.settings, (next.configured.interfaces, (s.present, (next.routes, next.ranges))))
+with_ground s next = (next.settings, (next.configured.interfaces, (s.present, (next.routes, next.ranges.static_ranges))))
 
 -- the facts of a state's interfaces at their places
 abbrev pub placed_links : State → List ℕ → LinkParts

@@ -67,7 +67,7 @@ fn in_order(alloc: Global, order: &[u32], world: &World) -> Result<Config, Alloc
 {
     let interfaces = interfaces_at(alloc, world.interfaces().configured(), order)?;
     let routes = routes_in_order(alloc, order, world.routes())?;
-    let rps = copied(alloc, world.ranges())?;
+    let rps = copied(alloc, world.static_ranges())?;
     let addresses = copied(alloc, world.interfaces().addresses())?;
     let settings = world.settings();
     Ok(Config {

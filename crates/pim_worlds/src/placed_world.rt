@@ -10,7 +10,7 @@ ghost use Rattle.std.specs.Prelude.{◌≡◌, IfErr, IfOk, Ok, length};
 
 use crate::rows::{copied, listed, listed_at, listed_sources, listed_timers};
 use crate::world_of;
-use pim_saver::{SavedGround, SavedLinks, SavedRecords, SavedState, SavedTrees};
+use pim_saver::{SavedGround, SavedHead, SavedLinks, SavedRecords, SavedState, SavedTrees};
 use pim_state::{Meter, World};
 use pim_types::Fault;
 use std::alloc::{AllocError, Global};
@@ -24,7 +24,7 @@ fn ground_of(alloc: Global, world: &World, next: &World) -> Result<SavedGround, 
         configured: copied(alloc, next.interfaces().configured())?,
         present: world.present(),
         routes: copied(alloc, next.routes())?,
-        ranges: copied(alloc, next.ranges())?,
+        ranges: copied(alloc, next.static_ranges())?,
     })
 }
 
@@ -85,7 +85,10 @@ fn state_at(
     ensures { IfOk result (λ state. state_view state ≡ placed_under world.now places.now (config_of next.now)) }
 {
     Ok(SavedState {
-        addresses: copied(alloc, next.interfaces().addresses())?,
+        head: SavedHead {
+            candidates: copied(alloc, world.candidates())?,
+            addresses: copied(alloc, next.interfaces().addresses())?,
+        },
         ground: ground_of(alloc, world, next)?,
         links: links_at(alloc, world, places)?,
         records: records_at(alloc, world, places)?,
@@ -113,6 +116,7 @@ pub fn world_at(
     world.membership().proof_kinds();
     world.store().proof_kinds();
     world.store().proof_rising();
+    world.proof_candidates();
     let _ = world.present();
     let _ = next.settings();
     let state = state_at(alloc, world, next, places, meter)?;

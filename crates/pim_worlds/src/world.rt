@@ -2,7 +2,8 @@
 ghost use Rattle.law_settled.specs.Ready.{IsOrdered};
 ghost use Rattle.law_states.specs.Reload.{config_of};
 ghost use Rattle.pim_ip.specs.declared.fault.Fault.{Fault};
-ghost use Rattle.pim_model.specs.Limits.{are_routes, are_rps, config_test};
+ghost use Rattle.pim_model.specs.Limits.{are_candidates, are_routes, are_rps, config_test};
+ghost use Rattle.pim_mrib.specs.Routes.{table_of};
 ghost use Rattle.pim_saver.specs.Views.{state_view};
 ghost use Rattle.pim_worlds.specs.Rows.{StateRises, can_hold};
 ghost use Rattle.std.specs.Prelude.{◌≡◌, ◌&&◌, IfErr, IfOk, IfSome, IsTrue, Ok, is_some};
@@ -15,19 +16,22 @@ use pim_ifaces::Interfaces;
 use pim_mrib::Mrib;
 use pim_saver::SavedState;
 use pim_state::{Meter, World};
-use pim_types::{Fault, Route, RpRange};
+use pim_types::{Fault, Route, RpCandidate, RpRange};
 use std::alloc::Global;
 
-// The routes and RP ranges; or none where they aren't accepted.
+// The routes, the RP ranges and the candidates; or none where they aren't accepted.
 fn mrib_of(
     alloc: Global,
     interfaces: &Interfaces,
     routes: &[Route],
     ranges: &[RpRange],
+    candidates: &[RpCandidate],
     meter: &mut Meter,
 ) -> Result<Option<Mrib>, Fault>
-    ensures made { IfOk result (λ made. IfSome made (λ mrib. mrib ≡ record { routes = routes.now; ranges = ranges.now })) }
-    ensures none { IfOk result (λ made. is_some made ≡ (are_routes interfaces.now.configured routes.now && are_rps ranges.now)) }
+    ensures made { IfOk result (λ made. IfSome made (λ mrib. mrib
+        ≡ record { routes = routes.now; ranges = table_of ranges.now candidates.now })) }
+    ensures none { IfOk result (λ made. is_some made ≡ (are_routes interfaces.now.configured routes.now
+        && (are_rps ranges.now && are_candidates candidates.now))) }
     ensures memory { IfErr result (λ fault. fault ≡ Fault.Memory) }
 {
     let mut mrib = Mrib::new(alloc);
@@ -35,6 +39,9 @@ fn mrib_of(
         return Ok(None);
     }
     if mrib.replace_rps(ranges, meter)?.is_err() {
+        return Ok(None);
+    }
+    if mrib.replace_candidates(candidates)?.is_err() {
         return Ok(None);
     }
     Ok(Some(mrib))
@@ -55,13 +62,21 @@ fn world_of_rows(
     let Some(interfaces) = interfaces_of(
         alloc,
         &ground.configured,
-        &state.addresses,
+        &state.head.addresses,
         &links.interfaces,
     )?
     else {
         return Ok(None);
     };
-    let Some(mrib) = mrib_of(alloc, &interfaces, &ground.routes, &ground.ranges, meter)? else {
+    let Some(mrib) = mrib_of(
+        alloc,
+        &interfaces,
+        &ground.routes,
+        &ground.ranges,
+        &state.head.candidates,
+        meter,
+    )?
+    else {
         return Ok(None);
     };
     let neighbours = neighbours_of(alloc, &links.neighbours)?;
@@ -104,6 +119,7 @@ pub fn proof_held(world: &World)
     world.interfaces().proof_kinds();
     world.membership().proof_kinds();
     world.store().proof_kinds();
+    world.proof_candidates();
     // For the proof: `settings` and `present` tell the ranges of their values.
     let _ = world.settings();
     let _ = world.present();

@@ -5,7 +5,7 @@ ghost use Rattle.pim_saved.specs.Text.{entry_text, front_text, ground_text, join
 ghost use Rattle.std.specs.List.{AllByRecursion, flat_map};
 ghost use Rattle.std.specs.Prelude.{◌≡◌, ◌++◌, OnOk};
 
-use pim_saver::{MAGIC, Saved, write_addresses, write_entry, write_list, write_sum, write_table};
+use pim_saver::{MAGIC, Saved, write_entry, write_head, write_list, write_sum, write_table};
 use pim_state::{Meter, World};
 use pim_store::{JoinTimerRows, Store};
 use pim_tables::PlacedRows;
@@ -23,7 +23,7 @@ fn write_ground(world: &World, out: &mut Vec<u8>) -> Result<(), AllocError>
     write_list(world.interfaces().configured(), out)?;
     world.present().write(out)?;
     write_list(world.routes(), out)?;
-    write_list(world.ranges(), out)?;
+    write_list(world.static_ranges(), out)?;
     Ok(())
 }
 
@@ -126,7 +126,7 @@ fn write_front(world: &World, out: &mut Vec<u8>, meter: &mut Meter) -> Result<()
     ensures fitting { OnOk result (FitsState world.now) }
 {
     MAGIC.write(out)?;
-    write_addresses(world.interfaces().addresses(), out)?;
+    write_head(world.candidates(), world.interfaces().addresses(), out)?;
     write_ground(world, out)?;
     write_links(world, out)?;
     write_records(world, out)?;

@@ -1,4 +1,5 @@
-//! Bootstraps (RFC 5059): RPs that are learned of them, beside those of the file.
+//! Bootstraps (RFC 5059): RPs that are learned of them, beside those of the file. Of several RPs of a range one is chosen
+//! for the range, or for each group.
 use super::{Daemon, Event, Fatal};
 use crate::core::ranges_of;
 use crate::left::{Left, LeftRange};
@@ -7,8 +8,9 @@ use crate::policy::Cause;
 use crate::settings::RpSettings;
 use crate::words;
 use log::{debug, info, warn};
+use std::collections::BTreeSet;
 use std::net::Ipv4Addr;
-use viqeshor::{Error, Heard, LearnedRp};
+use viqeshor::{Choice, Error, Heard, LearnedRp};
 
 /// After a start a neighbour may say at once what was said before, in ms (RFC 5059, 3.5.1).
 const REFRESH: u64 = 60_000;
@@ -17,11 +19,33 @@ const FRAGMENTS: u64 = 1_000;
 /// A BSR of which nothing is heard for so long is gone, in ms (RFC 5059, 5, BS_Timeout).
 const BS_TIMEOUT: u64 = 130_000;
 
-/// An RP of a range that the router has.
+/// An RP of a range that the file has, or that is learned.
 pub struct Rp {
     pub range: RpSettings,
     /// Of one that is learned; `None` where the file has it.
     pub learned: Option<LearnedRp>,
+    pub chosen: Chosen,
+}
+
+/// For which groups of its range an RP is the router's.
+#[derive(Clone, Copy, Debug, PartialEq, Eq)]
+pub enum Chosen {
+    /// For all of them, but for those of a longer range.
+    Range,
+    /// For those for which it is chosen among the RPs of the range, but for those of a longer range.
+    Groups,
+    /// For none: the file has the range, or another RP of it is chosen.
+    Nothing,
+}
+
+impl Chosen {
+    pub fn name(self) -> &'static str {
+        match self {
+            Chosen::Range => "range",
+            Chosen::Groups => "groups",
+            Chosen::Nothing => "nothing",
+        }
+    }
 }
 
 impl Daemon {
@@ -29,15 +53,45 @@ impl Daemon {
     /// file alone.
     pub(super) fn listen(&mut self) -> Result<(), Fatal> {
         let now = self.now();
-        match (self.settings.bsr.as_ref().map(|bsr| bsr.limit), self.core.listens()) {
-            (Some(limit), false) => self.core.listen(limit, &ranges_of(&self.settings.rps), now + REFRESH),
-            (None, true) => {
+        match (self.settings.bsr.as_ref(), self.core.choice()) {
+            (Some(settings), None) => self.core.listen(settings, &ranges_of(&self.settings.rps), now + REFRESH),
+            (None, Some(choice)) => {
                 self.core.listen_no_more();
                 self.see_elected();
                 self.due.unheard = None;
-                self.set_ranges()
+                self.set_ranges()?;
+                match choice {
+                    Choice::Range => Ok(()),
+                    Choice::Group => self.take_back(choice),
+                }
             }
             _ => Ok(()),
+        }
+    }
+
+    /// Where the settings say so, an RP is chosen for something else from here on.
+    pub(super) fn choose(&mut self) -> Result<(), Fatal> {
+        let wanted = self.settings.bsr.as_ref().map(|bsr| bsr.choice);
+        match (wanted, self.core.choice()) {
+            (Some(wanted), Some(before)) if wanted != before => {
+                self.advance()?;
+                self.core.choose(wanted)?;
+                self.give()?;
+                self.take_back(before)
+            }
+            _ => Ok(()),
+        }
+    }
+
+    /// What the router was given of what is learned, for such a choice, it has no more.
+    fn take_back(&mut self, choice: Choice) -> Result<(), Fatal> {
+        match choice {
+            Choice::Range => self.set_ranges(),
+            Choice::Group => {
+                self.take_also(Event::Candidates(&[]))?;
+                self.all_unknown_may_differ();
+                Ok(())
+            }
         }
     }
 
@@ -153,17 +207,35 @@ impl Daemon {
     fn give_anew(&mut self) -> Result<(), Fatal> {
         self.counters.bootstrap_moves += 1;
         self.give()?;
-        let ranges = self.core.learned().iter().filter(|rp| rp.is_given).count();
-        info!("Bootstraps say the RPs of {ranges} ranges");
+        info!("Bootstraps say the RPs of {} ranges", self.learned_ranges());
         Ok(())
     }
 
-    fn give(&mut self) -> Result<(), Fatal> {
-        self.due.unheard = None;
-        let ranges = self.core.given();
-        self.take_also(Event::Learned(&ranges))?;
+    /// The library's router is given the RPs that are learned. What it may have of the router before this one goes.
+    pub(super) fn give(&mut self) -> Result<(), Fatal> {
+        let was_kept = self.due.unheard.take().is_some();
+        match self.core.choice() {
+            Some(Choice::Group) => {
+                let candidates = self.core.candidates();
+                self.take_also(Event::Candidates(&candidates))?;
+            }
+            _ => {
+                let ranges = self.core.given();
+                self.take_also(Event::Learned(&ranges))?;
+            }
+        }
         self.all_unknown_may_differ();
-        Ok(())
+        match self.core.choice() {
+            Some(Choice::Group) if was_kept => self.take_back(Choice::Range),
+            Some(Choice::Range) if was_kept => self.take_back(Choice::Group),
+            _ => Ok(()),
+        }
+    }
+
+    /// Of how many ranges the router has a learned RP.
+    pub fn learned_ranges(&self) -> usize {
+        let given = self.core.learned().into_iter().filter(|rp| rp.is_given);
+        given.map(|rp| (rp.range.prefix, rp.range.length)).collect::<BTreeSet<_>>().len()
     }
 
     /// Time passes up to a moment, and on the way to the end of each RP that is learned.
@@ -189,10 +261,21 @@ impl Daemon {
         Ok(())
     }
 
-    /// The RPs that the router has: those of the file, and those that are learned and chosen beside them.
+    /// The RPs of the file, and those that are learned.
     pub fn rps(&self) -> Vec<Rp> {
-        let of_file = self.settings.rps.iter().map(|range| Rp { range: range.clone(), learned: None });
-        let learned = self.core.learned().into_iter().filter(|rp| rp.is_given);
-        of_file.chain(learned.map(|rp| Rp { range: RpSettings::of(&rp.range), learned: Some(rp) })).collect()
+        let of_file =
+            self.settings.rps.iter().map(|range| Rp { range: range.clone(), learned: None, chosen: Chosen::Range });
+        let is_by_group = self.core.choice() == Some(Choice::Group);
+        let learned = self.core.learned().into_iter().map(|rp| {
+            let range = RpSettings::of(&rp.range);
+            let is_of_file = self.settings.rps.iter().any(|of_file| of_file.groups == range.groups);
+            let chosen = match (rp.is_given && !is_of_file, is_by_group) {
+                (false, _) => Chosen::Nothing,
+                (true, true) => Chosen::Groups,
+                (true, false) => Chosen::Range,
+            };
+            Rp { range, learned: Some(rp), chosen }
+        });
+        of_file.chain(learned).collect()
     }
 }

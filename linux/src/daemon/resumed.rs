@@ -5,7 +5,7 @@
 //! an event like another, and other settings are taken as while the router runs. Where the router can't be restored it
 //! is made anew: it learns again, and the kernel forwards as before meanwhile.
 use super::{Core, Daemon, Event, Fatal, Machine, Neighbour};
-use crate::core::{ranges_of, told_of, Given};
+use crate::core::{told_of, Given};
 use crate::kernel::Kernel;
 use crate::left::{boot, Left, LeftEntry, LeftNeighbour, LeftSession};
 use crate::ports::{self, Port, Standing};
@@ -143,9 +143,13 @@ impl Daemon {
         policy.resume(&mut super::Ledger { core, kernel: kernel.as_ref(), machine, ports });
         self.advance()?;
         if knows || !self.keeps_learned(left.ranges.as_deref()) {
-            let ranges = ranges_of(&self.settings.rps);
-            self.take(Event::Ranges(&ranges))?;
+            self.set_ranges()?;
+            // One that heard Bootstraps may have chosen for each group.
+            if left.ranges.is_some() && !knows {
+                self.take_also(Event::Candidates(&[]))?;
+            }
         }
+        self.choose()?;
         self.all_unknown_may_differ();
         info!(
             "the router goes on where the one before it was: {} neighbours, {} entries, {} ms later",

@@ -19,6 +19,7 @@ use std::os::unix::io::{AsRawFd, RawFd};
 use std::os::unix::net::UnixStream;
 use std::sync::atomic::{AtomicBool, Ordering};
 use std::sync::Arc;
+use viqeshor::Choice;
 
 /// How often the kernel's counts are read, in ms; where reading them takes long, for a part of the time.
 const LOOK_EVERY: u64 = 10_000;
@@ -212,6 +213,7 @@ impl Daemon {
             self.set_ranges()?;
         }
         self.speak()?;
+        self.choose()?;
         self.record();
         self.place_all();
         // What was refused may be permitted now: the next packet asks.
@@ -224,8 +226,11 @@ impl Daemon {
     pub(super) fn set_ranges(&mut self) -> Result<(), Fatal> {
         self.advance()?;
         let ranges = ranges_of(&self.settings.rps);
-        if let Answer::Refused(refusal) = self.take(Event::Ranges(&ranges))? {
-            error!("the RP ranges are refused: {}", viqeshor::Error::Refused(refusal));
+        match self.take(Event::Ranges(&ranges))? {
+            Answer::Refused(refusal) => error!("the RP ranges are refused: {}", viqeshor::Error::Refused(refusal)),
+            // Beside more ranges, or under a lower limit, there may be fewer.
+            _ if self.core.choice() == Some(Choice::Group) => self.give()?,
+            _ => {}
         }
         self.all_unknown_may_differ();
         Ok(())

@@ -144,6 +144,11 @@ pub const BOOTSTRAP_RANGES: Family = Family {
     kind: Kind::Gauge,
     help: "The number of ranges of which the router has a learned RP.",
 };
+pub const BOOTSTRAP_CANDIDATES: Family = Family {
+    name: "bootstrap_candidates",
+    kind: Kind::Gauge,
+    help: "The number of learned RPs of which one is chosen for each group.",
+};
 pub const POLICY_REFUSED_TOTAL: Family = Family {
     name: "policy_refused_total",
     kind: Kind::Counter,

@@ -1,7 +1,7 @@
 //! Joins and asserts, and the ways to RPs and sources.
 use super::sheet::Sheet;
 use super::{address, is_here, seconds, until, way, About, Cells, Rows};
-use crate::daemon::Daemon;
+use crate::daemon::{Chosen, Daemon};
 use crate::error::Fatal;
 use crate::mroute::Key;
 use crate::routes::longest_route;
@@ -185,7 +185,7 @@ pub fn upstream(daemon: &mut Daemon, about: About, sheet: &mut Sheet) -> io::Res
 /// The ways to an address, or to all RPs and sources that the router has something to do with.
 pub fn rpf(daemon: &mut Daemon, to: Option<Ipv4Addr>) -> Result<Rows, Fatal> {
     let mut asked: BTreeMap<Ipv4Addr, BTreeSet<&'static str>> = BTreeMap::new();
-    for rp in daemon.rps() {
+    for rp in daemon.rps().iter().filter(|rp| rp.chosen != Chosen::Nothing) {
         asked.entry(rp.range.address).or_default().insert("RP");
     }
     let mut sources: Vec<_> = daemon.core.rows_of::<ActiveRow>()?.iter().map(|row| row.source).collect();

@@ -11,9 +11,11 @@ from typing import TYPE_CHECKING, TypeVar
 
 from viqeshor.lab import asked, printed, words
 from viqeshor.lab.addresses import ip_address
+from viqeshor.lab.learner import hears
 from pimtext.causes.cause import Cause
 from viqeshor.lab.printed import ANY
 from pimtext.causes.run import gathered, some
+from pimtext.ways.namings import differences, has_candidates, namings_of
 
 if TYPE_CHECKING:
     from ipaddress import IPv4Network
@@ -65,13 +67,19 @@ class Mistakes:
         peer = next(each for each, state in self.known.items() if asked.rp_of(state, groups[0]) == usual)
         settings, one = self.run.settings, lambda each: each.rp(groups[0])
         theirs = f"{usual} at {settings.place(peer, settings.since(peer, one))}"
-        told = f": the RP of {some(groups)} is {rp} here, and {theirs}"
+        told = f": the RP of {some(groups)} is {rp} here, and {theirs}{self.candidates_differ(name, peer, groups[0])}"
         kinds = ("rp disagrees", "no owner", "registers stopped")
 
         def covers(each: Symptom) -> bool:
             return each.kind in kinds and each.group in groups and (each.router == name or each.address == rp)
 
         return Cause(*self.run.at_setting(name, told, one), covers)
+
+    def candidates_differ(self, name: str, peer: str, group: str) -> str:
+        """In what two routers differ, where there are candidates of a group."""
+        both = namings_of(self.known[name], group), namings_of(self.known[peer], group)
+        differ = list(differences((name, peer), both)) if has_candidates(*both) else []
+        return f"; {'; '.join(differ)}" if differ else ""
 
     def unaware(self, name: str, rp: str | None, usual: str, groups: list[str]) -> Cause:
         own = f"takes {rp} for it" if rp else "has no RP for it itself"
@@ -95,9 +103,21 @@ class Mistakes:
             missing = [group for group in self.run.groups() if asked.rp_of(state, group) is None]
             groups = [group for group in missing if group not in nowhere]
             if groups:
-                told = f" has no RP for {some(groups)}, which other routers have"
+                told = f" has no RP for {some(groups)}, which other routers have{self.learned_elsewhere(groups[0])}"
                 one = lambda each, group=groups[0]: each.rp(group)
                 yield Cause(*self.run.at_setting(name, told, one), self.of_router(name, groups), is_hint=True)
+
+    def learned_elsewhere(self, group: str) -> str:
+        """Which router learned the RP of a group, by which message, and until when."""
+        settings, value = self.run.settings, lambda each: each.rp(group)
+        for name, state in self.known.items():
+            since = settings.since(name, value)
+            if since.now is None or since.began is None or not hears(state.router.table):
+                continue
+            row = next((row for row in state.of(printed.LearnedRp, state="given", rp=since.now)), None)
+            until = f", until {words.seconds(row.end)}" if row else ""
+            return f": {name} learned {since.now} {settings.move(since.began)}{until}"
+        return ""
 
     def since_none(self, group: str, told: str) -> tuple[int | Line, str]:
         """Where and since when the last router has no RP for a group."""

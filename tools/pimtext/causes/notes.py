@@ -10,7 +10,10 @@ from pimtext.ways import trace
 from viqeshor.lab import packets, story, wishes, words
 from pimtext.causes.cause import Symptom
 from viqeshor.lab.facts import MEANINGS
-from viqeshor.lab.faults import MOST_ROUTES, MOST_RPS, Judge, configuration_faults, list_faults, route_fault, rp_fault
+from viqeshor.lab.faults import (
+    MOST_CANDIDATES, MOST_ROUTES, MOST_RPS, Judge, candidate_fault, configuration_faults, list_faults, route_fault,
+    rp_fault,
+)
 from viqeshor.lab.scenario import places_of
 
 if TYPE_CHECKING:
@@ -106,8 +109,8 @@ class Notes:
 
     def meaning(self, step: story.Step) -> str:
         cause, did = step.cause, step.did
-        if cause in ("25", "26"):
-            return self.wrong_list(step.move, step.router, cause == "25")
+        if cause in ("25", "26", "76"):
+            return self.wrong_list(step.move, step.router)
         if cause == "27":
             return self.moved_on(step) if step.is_settle() else self.no_delivery(step)
         if cause.isdigit() and (30 <= int(cause) <= 38 or cause == "70"):
@@ -142,15 +145,17 @@ class Notes:
         done = (each for each in before if each.did["do"] == "reload" and each.verdict == "done")
         return next((each.did["config"] for each in done), self.played.router(router).table)
 
-    def wrong_list(self, number: int, router: str, is_routes: bool) -> str:
-        """What is wrong with the routes or ranges of a move."""
+    def wrong_list(self, number: int, router: str) -> str:
+        """What is wrong with the routes, the ranges or the candidates of a move."""
         table = self.judge.moves[number - 1]
         made = next(made for made in self.judge.routers if made["table"].get("name").held == router)
-        entries = Judge().entries(table.get("do").held, table)
-        if is_routes:
-            found = list_faults(entries, MOST_ROUTES, lambda route: route_fault(route, made))
-        else:
-            found = list_faults(entries, MOST_RPS, rp_fault)
+        kind = table.get("do").held
+        most, one = {
+            "routes": (MOST_ROUTES, lambda route: route_fault(route, made)),
+            "rps": (MOST_RPS, rp_fault),
+            "candidates": (MOST_CANDIDATES, candidate_fault),
+        }[kind]
+        found = list_faults(Judge().entries(kind, table), most, one, has_rps=kind == "candidates")
         return "; ".join(what for _, what in found)
 
     def wrong_configuration(self, number: int, test: int) -> str:

@@ -1,13 +1,18 @@
-"""What the routers of a run were told, and when: interfaces, routes and RP ranges, with the move that set each last."""
+"""What the routers of a run were told, and when: interfaces, routes, RP ranges and candidate RPs, with the move that
+set each last."""
 from __future__ import annotations
 
 from collections.abc import Callable, Iterable
-from dataclasses import dataclass
+from dataclasses import dataclass, replace
 from typing import TYPE_CHECKING, Any
 
 from viqeshor.lab import words
 from viqeshor.lab.addresses import ip_address, longest, ranges_of, routes_of
+from viqeshor.lab.known import given_of
+from viqeshor.lab.learner import hears
+from viqeshor.lab.rps import Candidate, candidates_of, rp_among
 from viqeshor.lab.scenario import router_of
+from viqeshor.lab.twin import Twin
 
 if TYPE_CHECKING:
     from ipaddress import IPv4Network
@@ -17,7 +22,7 @@ if TYPE_CHECKING:
     from viqeshor.lab.scenario import Router, Scenario
     from viqeshor.lab.story import Step
 
-KINDS = ("routes", "rps", "reload")
+KINDS = ("routes", "rps", "candidates", "reload")
 
 
 @dataclass(frozen=True)
@@ -28,9 +33,11 @@ class Told:
     router: Router
     routes: list[Route]
     ranges: list[tuple[IPv4Network, str]]
+    candidates: list[Candidate]
 
     def rp(self, group: str) -> str | None:
-        return longest(self.ranges, ip_address(group))
+        found = rp_among(self.ranges, self.candidates, group)
+        return found and found[1]
 
     def route(self, address: str) -> Route | None:
         return longest([(each.prefix, each) for each in self.routes], ip_address(address))
@@ -64,21 +71,39 @@ class Settings:
 
     def __init__(self, played: Scenario, steps: list[Step], lines: Lines | LabLines) -> None:
         self.lines = lines
-        self.told = {each.name: [Told(-1, None, router_of(each.table), each.routes, each.rps)]
+        self.told = {each.name: [Told(-1, None, router_of(each.table), each.routes, each.rps, [])]
                      for each in played.routers}
+        twins = {each.name: Twin(each.table) for each in played.routers}
         for at, step in enumerate(steps):
+            twins[step.router].take_note(step)
             if step.did["do"] in KINDS and step.verdict == "done":
                 self.told[step.router].append(self.after(self.told[step.router][-1], at, step))
+            self.learn(twins[step.router], at, step)
+
+    def learn(self, twin: Twin, at: int, step: Step) -> None:
+        """What a router has of its listener after a step, where these are other ranges."""
+        was = self.told[step.router][-1]
+        if step.verdict != "done" or not hears(was.router.table):
+            return
+        ranges = given_of(twin, len(twin.events))
+        if ranges == was.ranges:
+            return
+        if was.at == at:
+            self.told[step.router].pop()
+        self.told[step.router].append(replace(was, at=at, step=step, ranges=ranges))
 
     @staticmethod
     def after(was: Told, at: int, step: Step) -> Told:
-        did = step.did
-        if did["do"] == "routes":
-            return Told(at, step, was.router, routes_of(did["list"]), was.ranges)
-        if did["do"] == "rps":
-            return Told(at, step, was.router, was.routes, ranges_of(did["list"]))
+        did, now = step.did, replace(was, at=at, step=step)
+        match did["do"]:
+            case "routes":
+                return replace(now, routes=routes_of(did["list"]))
+            case "rps":
+                return replace(now, ranges=ranges_of(did["list"]))
+            case "candidates":
+                return replace(now, candidates=candidates_of(did["list"]))
         router = router_of({**did["config"], "name": step.router})
-        return Told(at, step, router, router.routes, router.rps)
+        return replace(now, router=router, routes=router.routes, ranges=router.rps)
 
     def at(self, name: str, at: int | None = None) -> Told:
         """What held at a router before a step, at the end without one."""

@@ -8,7 +8,7 @@ from typing import Any, NamedTuple
 
 from viqeshor.lab.addresses import dotted
 
-MAGIC, VERSION, WITH_ADDRESSES = b"VQST", 2, 3
+MAGIC, VERSION, WITH_ADDRESSES, WITH_CANDIDATES = b"VQST", 2, 3, 4
 # In front of them, where groups of older hosts are saved too.
 HOSTS = b"VIQF"
 
@@ -41,6 +41,7 @@ Table = list[tuple[Key, Row]]
 class Saved:
     settings: dict[str, int]
     addresses: list[str]
+    candidates: list[tuple[str, int, str, int, int]]
     interfaces: list[tuple[str, int, int, int, int]]
     present: int
     routes: list[tuple[str, int, str, int, int, int]]
@@ -159,6 +160,14 @@ def opened(data: bytes) -> tuple[Table, bytes]:
         raise Unreadable(71, f"the groups of older hosts aren't read: {unreadable}") from None
 
 
+def candidates_in(r: Reader) -> list[Any]:
+    """The candidate RPs of version 4, of which there is one at least."""
+    found = r.list(lambda: r.in_turn(r.address, r.word, r.address, r.word, r.word))
+    if not found:
+        raise Unreadable(63, "version 4 without a candidate RP")
+    return found
+
+
 def read(data: bytes) -> Saved:
     """The state that saved bytes say; raises Unreadable where they say none."""
     hosts, data = opened(data)
@@ -166,13 +175,14 @@ def read(data: bytes) -> Saved:
     if r.word() != int.from_bytes(MAGIC, "big"):
         raise Unreadable(60, "the first four bytes aren't VQST")
     version = r.half()
-    if version not in (VERSION, WITH_ADDRESSES):
+    if version not in (VERSION, WITH_ADDRESSES, WITH_CANDIDATES):
         raise Unreadable(61, "another version")
     if int.from_bytes(data[-4:], "big") != zlib.crc32(data[:-4]):
         raise Unreadable(69, "the sum isn't that of the bytes")
-    addresses = r.list(r.address) if version == WITH_ADDRESSES else []
+    addresses = r.list(r.address) if version != VERSION else []
     if version == WITH_ADDRESSES and not addresses:
         raise Unreadable(63, "version 3 without an own address of no interface")
+    candidates = candidates_in(r) if version == WITH_CANDIDATES else []
     settings = {"limit": r.word(), "stays_on_shared_tree": r.tag(1)}
     names = ("robustness", "query_interval", "query_response_interval", "last_member_query_interval")
     settings |= {name: r.word() for name in names}
@@ -184,7 +194,7 @@ def read(data: bytes) -> Saved:
     r.word()
     if r.at != len(data):
         raise Unreadable(65, "bytes follow the sum")
-    return Saved(settings, addresses, interfaces, present, routes, ranges, tables, hosts)
+    return Saved(settings, addresses, candidates, interfaces, present, routes, ranges, tables, hosts)
 
 
 def summed(front: bytes) -> bytes:
@@ -216,6 +226,7 @@ def lines(saved: Saved) -> Iterator[str]:
     yield from (" ".join(["interface", str(number), *map(str, row)]) for number, row in enumerate(saved.interfaces))
     yield from (" ".join(["route", *map(str, row)]) for row in saved.routes)
     yield from (" ".join(["range", *map(str, row)]) for row in saved.ranges)
+    yield from (" ".join(["candidate", *map(str, row)]) for row in saved.candidates)
     for name, rows in [*saved.tables.items(), ("older-hosts", saved.hosts)]:
         yield from (" ".join([name, *key_words(key), *map(shown, row)]) for key, row in rows)
 

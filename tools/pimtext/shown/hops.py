@@ -7,7 +7,7 @@ import shlex
 import subprocess
 from collections.abc import Callable, Iterator
 from dataclasses import dataclass
-from ipaddress import IPv4Interface, IPv4Network
+from ipaddress import IPv4Interface
 from pathlib import Path
 from typing import TYPE_CHECKING, Any
 
@@ -184,10 +184,9 @@ class Live:
         return hop, way
 
     def rp(self, name: str, group: str) -> str | None:
-        """The RP of a group by the longest range that has it."""
-        rows = [(IPv4Network(row["groups"]), row["rp"]) for row in self.ask(name, "rp")]
-        here = [(net.prefixlen, rp) for net, rp in rows if ip_address(group) in net]
-        return max(here)[1] if here else None
+        """The RP that a router has for a group."""
+        rows = self.ask(name, "rp", group)
+        return rows[0]["rp"] if rows else None
 
 
 def out_of(entry: dict[str, Any] | None) -> list[str]:

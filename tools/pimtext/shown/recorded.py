@@ -95,6 +95,11 @@ def row_words(router: Router, row: printed.Row) -> str:
             return f"source {words.tree(row.group, row.source)}{by}{register}"
         case printed.OlderHosts():
             return f"hosts of IGMP{row.mode} want {row.group}{where}"
+        case printed.ElectedBsr():
+            return f"the BSR is {row.bsr}"
+        case printed.LearnedRp():
+            told = {"given": "learned", "kept": "learned, and another wins", "waits": "said in a fragment"}[row.state]
+            return f"RP of {row.groups} {told}: {row.rp}"
 
 
 # ---- shapes
@@ -122,7 +127,7 @@ class Shapes:
     def __init__(self, recording: Recording, router: Router) -> None:
         self.recording, self.router = recording, router
         self.numbers, self.all, self.context = {}, [], None
-        self.lists, self.list = {}, (None, None, 0)
+        self.lists, self.list = {}, (None, None, None, 0)
 
     def of(self, state: Known, is_context_kept: bool) -> tuple[int, list[float]]:
         """The number of a router's shape, and its ends."""
@@ -136,11 +141,11 @@ class Shapes:
         return self.numbers[key], [end for _, ends in parts for end in ends.values()]
 
     def number_of_lists(self, state: Known) -> int:
-        """A number of a router's routes and RPs: equal ones have the same."""
-        if self.list[0] is not state.routes or self.list[1] is not state.rps:
-            key = tuple(state.routes), tuple(state.rps)
-            self.list = state.routes, state.rps, self.lists.setdefault(key, len(self.lists))
-        return self.list[2]
+        """A number of a router's routes, ranges and candidates: equal ones have the same."""
+        here = state.routes, state.rps, state.candidates
+        if any(was is not now for was, now in zip(self.list, here)):
+            self.list = *here, self.lists.setdefault(tuple(map(tuple, here)), len(self.lists))
+        return self.list[-1]
 
     def made(self, state: Known) -> dict[str, Any]:
         text = self.recording.text
@@ -152,7 +157,7 @@ class Shapes:
                      for row in state.of(printed.Active, register="join")]
         rows = list(dict.fromkeys(text(row_words(self.router, row)) for row in state.rows))
         drs = [number for number in sorted(state.up) if asked.is_dr(state, number)]
-        rps = sorted({text(f"{prefix}") for prefix, rp in state.rps if state.router.has(rp)})
+        rps = sorted({text(f"{prefix}") for prefix in state.own_ranges()})
         return {"up": sorted(state.up), "dr": drs, "rp": rps, "rows": rows, "arrows": arrows, "registers": registers,
                 "view": tables}
 
@@ -313,7 +318,7 @@ class Recording:
         told += [f"{named(whose, 'interfaces', 2)} {verb}" for verb, whose in turned.items() if whose]
         for do, what in (("restart", "restarts"), ("reload", "gets another configuration")):
             told += [f"{did['router']} {what}" for did in dids if did["do"] == do]
-        changed = sorted({did["router"] for did in dids if did["do"] in ("routes", "rps")})
+        changed = sorted({did["router"] for did in dids if did["do"] in ("routes", "rps", "candidates")})
         told += [f"new routes or RPs at {named(changed, 'routers')}"] * bool(changed)
         told += self.spoken(said)
         brought = sum(self.moves[number][1] for number in numbers

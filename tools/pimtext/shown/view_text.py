@@ -75,8 +75,10 @@ def group_row(entry: dict[str, Any]) -> list[Any]:
 
 
 def rp_row(entry: dict[str, Any]) -> list[Any]:
-    return [entry["range"], entry["rp"], "itself" if entry["is_own"] else at(entry["rpf"]),
-        ", ".join(entry["groups"]) or None]
+    priority = "" if entry["priority"] is None else f", priority {entry['priority']}"
+    towards = "itself" if entry["is_own"] else at(entry["rpf"])
+    groups = ", ".join(entry["groups"]) or None
+    return [entry["range"], entry["rp"], f"{entry['named_by']}{priority}", towards, groups]
 
 
 def tables(view: dict[str, Any]) -> Iterator[tuple[str, list[str], list[list[Any]]]]:
@@ -91,7 +93,7 @@ def tables(view: dict[str, Any]) -> Iterator[tuple[str, list[str], list[list[Any
     yield "show ip pim neighbor", heads, list(map(neighbour_row, view["neighbours"]))
     heads = ["Interface", "Group", "Mode", "Until", "Sources", "Querier", "Served here"]
     yield "show ip igmp groups", heads, list(map(group_row, view["groups"]))
-    yield "show ip pim rp-info", ["Range", "RP", "Towards", "Groups"], list(map(rp_row, view["rps"]))
+    yield "show ip pim rp-info", ["Range", "RP", "Named by", "Towards", "Groups"], list(map(rp_row, view["rps"]))
 
 
 def text(view: dict[str, Any]) -> Iterator[str]:

@@ -7,13 +7,16 @@ from __future__ import annotations
 from typing import TYPE_CHECKING, Any, TypeVar
 
 from pimtext.ways import reasons
+from pimtext.ways.namings import namings_of
 from viqeshor.lab import asked, printed
-from viqeshor.lab.addresses import ip_address, is_source_specific, longest
+from viqeshor.lab.addresses import ip_address, is_source_specific
 from viqeshor.lab.printed import ANY
 
 if TYPE_CHECKING:
     from ipaddress import IPv4Network
+    from pimtext.ways.namings import Naming
     from viqeshor.lab.known import Known
+    from viqeshor.lab.rps import Candidate
     from viqeshor.lab.scenario import Interface
 
     R = TypeVar("R")
@@ -183,13 +186,31 @@ def wanted_of(row: printed.GroupRecord, sources: list[dict[str, Any]]) -> list[s
 # ---- show ip pim rp-info
 
 
-def rp_range(state: Known, prefix: IPv4Network, rp: str) -> dict[str, Any]:
-    ranges = [(each, (each, address)) for each, address in state.rps]
-    groups = {group for group, _ in keys(state) if asked.rp_of(state, group) is not None}
-    here = [group for group in groups if longest(ranges, ip_address(group)) == (prefix, rp)]
-    used = sorted(here, key=ip_address)
+def rps(state: Known) -> list[dict[str, Any]]:
+    """The RP ranges and then the candidate RPs, each with the groups that have their RP by it."""
+    groups = sorted({group for group, _ in keys(state)}, key=ip_address)
+    first = [(group, found[0]) for group in groups if (found := namings_of(state, group))]
+    by_range = [rp_named(state, prefix, rp, None, first) for prefix, rp in state.rps]
+    return by_range + [rp_named(state, each.prefix, each.rp, each, first) for each in state.candidates]
+
+
+def named_by(state: Known, prefix: IPv4Network, rp: str) -> str:
+    """Whether an RP range is of Bootstraps."""
+    learned = ((it.groups, it.rp) for it in state.learned() if it.is_given)
+    return "bootstrap" if (str(prefix), rp) in learned else "range"
+
+
+def rp_named(
+    state: Known, prefix: IPv4Network, rp: str, candidate: Candidate | None, first: list[tuple[str, Naming]]
+) -> dict[str, Any]:
+    """`first` has what names the RP of each group."""
+    used = [group for group, it in first if (it.prefix, it.rp, it.candidate) == (prefix, rp, candidate)]
     towards = place(state, asked.rpf_interface(state, rp))
-    return {"range": str(prefix), "rp": rp, "is_own": state.router.has(rp), "rpf": towards, "groups": used}
+    return {
+        "range": str(prefix), "rp": rp, "named_by": "candidate" if candidate else named_by(state, prefix, rp),
+        "priority": candidate and candidate.priority, "hash_length": candidate and candidate.hash_length,
+        "is_own": state.router.has(rp), "rpf": towards, "groups": used,
+    }
 
 
 # ---- all
@@ -204,5 +225,5 @@ def router(state: Known) -> dict[str, Any]:
         "upstream": [upstream(state, *key) for key in here],
         "neighbours": [pim_neighbour(state, row) for row in state.of(printed.Neighbour)],
         "groups": [igmp_group(state, row) for row in state.of(printed.GroupRecord)],
-        "rps": [rp_range(state, *each) for each in state.rps],
+        "rps": rps(state),
     }

@@ -21,6 +21,8 @@ if TYPE_CHECKING:
     from viqeshor.lab.scenario import Scenario
 
 Rows = list[list[str]]
+# What vtysh calls that by which an RP is named; it has no candidates but those of Bootstraps.
+RP_SOURCES = {"range": "Static", "bootstrap": "BSR", "candidate": "Candidate"}
 
 
 @dataclass
@@ -181,8 +183,8 @@ class Shown:
 
     def rp_info(self) -> tuple[list[str], Rows]:
         rows = [[each["rp"], each["range"], self.link(each["rpf"] and each["rpf"]["interface"]),
-                 "yes" if each["is_own"] else "no", "Static", "ASM"]
-                for each in (views.rp_range(self.state, *pair) for pair in self.state.rps)]
+                 "yes" if each["is_own"] else "no", RP_SOURCES[each["named_by"]], "ASM"]
+                for each in views.rps(self.state)]
         return ["RP address", "group/prefix-list", "OIF", "I am RP", "Source", "Group-Type"], rows
 
     def rpf(self, address: str) -> tuple[list[str], Rows]:

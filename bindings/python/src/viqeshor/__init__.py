@@ -56,6 +56,7 @@ __all__ = [
     "ActiveRow",
     "Answer",
     "AssertRow",
+    "Candidate",
     "Cause",
     "Closed",
     "DownstreamRow",
@@ -97,7 +98,7 @@ Buffer: TypeAlias = bytes | bytearray | memoryview
 Interface: TypeAlias = str | IPv4Interface | tuple[Any, ...]
 
 # What this package and the library have to agree on: VIQ_ABI of viqeshor.h.
-ABI = 11
+ABI = 12
 NEVER, NO_INTERFACE, NO_PLACE, MOST_BYTES = 2**64 - 1, 2**32 - 1, 2**32 - 1, 1528
 # The letters of the tables.
 TABLES = "NGSDAURF"
@@ -137,6 +138,7 @@ class Answer(enum.IntEnum):
     CONFIGURED_RANGES = 38
     OWN_ADDRESSES = 70
     PLACES_DONT_FIT = 73
+    BAD_CANDIDATES = 76
     BAD_RP_SET = 74
     MEMORY = 40
     FAILED = 41
@@ -192,7 +194,7 @@ class Answer(enum.IntEnum):
     @property
     def is_refused(self) -> bool:
         return Answer.DONE < self < Answer.MEMORY or self in (
-            Answer.OWN_ADDRESSES, Answer.PLACES_DONT_FIT, Answer.BAD_RP_SET)
+            Answer.OWN_ADDRESSES, Answer.PLACES_DONT_FIT, Answer.BAD_CANDIDATES, Answer.BAD_RP_SET)
 
 
 class Error(Exception):
@@ -251,6 +253,10 @@ class CRoute(Structure):
 
 class CRange(Structure):
     _fields_ = numbers("prefix", "length", "rp")
+
+
+class CCandidate(Structure):
+    _fields_ = numbers("prefix", "length", "rp", "priority", "hash_length")
 
 
 class CRpSet(Structure):
@@ -313,6 +319,15 @@ class RefusedAt(Structure):
 # ---- what the router answers
 
 KINDS = {1: "frame", 2: "copy", 3: "unicast"}
+
+
+class Candidate(NamedTuple):
+    """An RP of a range of groups, which may have several: its priority, at most 255, of which the lower is preferred,
+    and the bits of the hash function's mask, at most 32, of which 30 are usual."""
+    groups: str
+    rp: str
+    priority: int
+    hash_length: int = 30
 
 
 class RpSet(NamedTuple):
@@ -394,6 +409,7 @@ CALLS: dict[str, tuple[list[Any], Any]] = {
     "down": ([c_uint32, Draw], c_uint32),
     "routes": ([*LIST, Draw], c_uint32),
     "ranges": ([*LIST, Draw], c_uint32),
+    "candidates": ([*LIST, Draw], c_uint32),
     "take": ([POINTER(CPacket), POINTER(c_uint8), c_size_t], c_bool),
     "clear": ([], None),
     "copies": ([], c_uint32),
@@ -428,6 +444,7 @@ RECORDS: dict[str, list[Any]] = {
     "record": [c_char_p, c_size_t],
     "record_routes": LIST,
     "record_ranges": LIST,
+    "record_candidates": LIST,
     "record_anycast": LIST,
     "record_reload": [POINTER(Settings), *LIST, *LIST, *LIST],
     "record_reload_places": [POINTER(Settings), *LIST, *LIST, *LIST, *LIST],
@@ -549,6 +566,11 @@ def routes_of(routes: Iterable[tuple[Any, ...]]) -> tuple[Any, int]:
 
 def ranges_of(ranges: Iterable[tuple[str, str]]) -> tuple[Any, int]:
     return array(CRange, [all_numbers(CRange, [*prefix(net), address(rp)]) for net, rp in ranges])
+
+
+def candidates_of(candidates: Iterable[tuple[Any, ...]]) -> tuple[Any, int]:
+    given = (Candidate(*each) for each in candidates)
+    return array(CCandidate, [all_numbers(CCandidate, [*prefix(net), address(rp), *rest]) for net, rp, *rest in given])
 
 
 def rp_set_of(shared: str, own: str, others: Iterable[str]) -> CRpSet:
@@ -819,6 +841,14 @@ class Router:
 
     def set_ranges(self, ranges: Iterable[tuple[str, str]], draw: int | None = None) -> Answer:
         return self._event("ranges", draw, *ranges_of(ranges))
+
+    def set_candidates(self, candidates: Iterable[tuple[Any, ...]], draw: int | None = None) -> Answer:
+        """All candidate RPs are replaced, each as a `Candidate` has it, at most 256; a new router has none. The ranges
+        stay, as the candidates do with `set_ranges` and `reload`. Of a group the candidate is chosen that has the
+        longest prefix, of these the lowest number as its priority, then the greatest value of the hash function (RFC
+        7761, 4.7.2), then the highest address. Where a range contains the group too, the longer prefix of the two
+        decides, and of one prefix the range has the RP; `tree` tells the RP of a group."""
+        return self._event("candidates", draw, *candidates_of(candidates))
 
     # ---- what is read
 

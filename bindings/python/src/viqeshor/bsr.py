@@ -19,6 +19,7 @@ import threading
 import weakref
 from collections.abc import Iterable
 from ctypes import POINTER, Structure, byref, c_bool, c_char_p, c_size_t, c_uint8, c_uint32, c_uint64, c_void_p
+from enum import IntEnum
 from functools import cache
 from typing import Any, NamedTuple, Self
 
@@ -35,6 +36,7 @@ from viqeshor import (
     Router,
     Sent,
     bytes_of,
+    candidates_of,
     found,
     load,
     number,
@@ -44,9 +46,16 @@ from viqeshor import (
 from viqeshor.rows import numbers
 from viqeshor.trees import dotted
 
-__all__ = ["Bsr", "Elected", "Heard", "LearnedPart", "LearnedRp"]
+__all__ = ["Bsr", "Choice", "Elected", "Heard", "LearnedPart", "LearnedRp"]
 
 LAST_MOMENT = 2**62
+
+
+class Choice(IntEnum):
+    """What an RP is chosen for, of several that a learned range has: for the range, by the hash of its prefix, as with
+    FRR; or for each group, by the hash of the group (RFC 7761, section 4.7.2)."""
+    RANGE = 0
+    GROUP = 1
 
 
 class CElected(Structure):
@@ -74,6 +83,8 @@ CALLS: dict[str, tuple[list[Any], Any]] = {
     "pass": ([c_uint64, POINTER(c_bool)], c_uint32),
     "ranges": ([c_void_p, c_uint32, *LIST, Draw], c_uint32),
     "save": ([POINTER(c_uint8), c_size_t, POINTER(c_size_t)], c_uint32),
+    "choose": ([c_uint32], c_uint32),
+    "choice": ([], c_uint32),
     "configured": ([], c_size_t),
     "range": ([c_size_t, POINTER(CRange)], c_bool),
     "elected": ([POINTER(CElected)], c_bool),
@@ -109,7 +120,7 @@ class Elected(NamedTuple):
 class LearnedRp(NamedTuple):
     """An RP of a learned range, in force: its priority, of which the lower is preferred, the bits of the hash
     function's mask, whether the router is given it, and when its holdtime is over, in ms. It is given where its range
-    isn't configured and it is chosen of its range."""
+    isn't configured and it is chosen of its range, or as a candidate."""
     groups: str
     rp: str
     priority: int
@@ -132,7 +143,7 @@ class LearnedPart(NamedTuple):
 
 class Heard(NamedTuple):
     """What became of a packet: DONE where it is a Bootstrap that counts; and whether the router is to be given other
-    ranges."""
+    RPs."""
     answer: Answer
     moved: bool
 
@@ -146,8 +157,9 @@ def draw_of(draw: int | None) -> int:
 
 
 class Bsr:
-    """A listener, which hears Bootstraps before a router and says which ranges this is to have: the configured ones,
-    and of each learned range the RP that a hash of the range's prefix chooses.
+    """A listener, which hears Bootstraps before a router and says which RPs this is to have: those of the configured
+    ranges, and of each learned range the one that a hash of the range's prefix chooses, or all as candidates, of which
+    it chooses for each group (`choose`).
 
     With a listener a program calls `frame`, `run_to`, `set_ranges` and `next_moment` of it in the place of those of the
     router; `hear`, `give` and `pass_to` are their steps. A reload gives the router the ranges that it has (`given`),
@@ -236,7 +248,7 @@ class Bsr:
 
     def frame(self, router: Router, iface: int, packet: Buffer, draw: int | None = None) -> Answer:
         """A packet came on an interface, to a group, as by `Router.frame`. Where the router ignores it for its type the
-        listener hears it, and where the ranges moved the router is given them. Returns what the router made of the
+        listener hears it, and where the RPs moved the router is given them. Returns what the router made of the
         packet, or else the listener."""
         bits = draw_of(draw)
         with self.lock, router.lock:
@@ -250,7 +262,7 @@ class Bsr:
 
     def advance(self, router: Router, moment: int, draw: int | None = None) -> Answer:
         """Time passes up to a timestamp, as by `Router.advance`, and on the way to the end of each RP, where the router
-        is given other ranges."""
+        is given other RPs."""
         bits = draw_of(draw)
         with self.lock, router.lock:
             while (end := self.next_end()) is not None and end <= moment <= LAST_MOMENT:
@@ -279,6 +291,17 @@ class Bsr:
             self._give(router, bits)
         return answer
 
+    def choose(self, router: Router, choice: Choice, draw: int | None = None) -> Answer:
+        """Has an RP chosen for something else: the router is given the RPs so, and what the former choice gave it
+        goes."""
+        bits = draw_of(draw)
+        with self.lock, router.lock:
+            self._must(self._call("choose", number(choice, 32, "a choice")))
+            self._give(router, bits)
+            if choice == Choice.GROUP:
+                return router.set_ranges(self.configured, bits)
+            return router.set_candidates([], bits)
+
     # ---- the steps one by one
 
     def hear(self, router: Router, iface: int, packet: Buffer) -> Heard:
@@ -296,12 +319,16 @@ class Bsr:
         return Heard(answer, moved.value)
 
     def give(self, router: Router, draw: int | None = None) -> Answer:
-        """An event of the router: its ranges are replaced by those that the listener has for it."""
+        """An event of the router: its ranges are replaced by those that the listener has for it, or its candidates
+        where an RP is chosen for each group."""
         return self._give(router, draw_of(draw))
 
     def _give(self, router: Router, bits: int) -> Answer:
         with self.lock, router.lock:
-            return self._told(router, bits, self._call("give", router._router, Draw(bits)))
+            answer = self._call("give", router._router, Draw(bits))
+            if self.choice() == Choice.GROUP:
+                return self._told(router, bits, answer, "candidates", candidates_of(self.candidates()))
+            return self._told(router, bits, answer, "ranges", ranges_of(self.given()))
 
     def next_end(self) -> int | None:
         """When the first of the RPs in force expires, in ms."""
@@ -309,7 +336,7 @@ class Bsr:
 
     def pass_to(self, moment: int) -> bool:
         """Time passed to a timestamp: what has expired is forgotten. Returns whether the router is to be given other
-        ranges."""
+        RPs."""
         moved = c_bool()
         self._must(self._call("pass", number(moment, 64, "a moment"), byref(moved)))
         return moved.value
@@ -318,7 +345,8 @@ class Bsr:
         self, router: Router, ranges: Iterable[tuple[str, str]], *, limit: int = 256, draw: int | None = None
     ) -> Answer:
         """Other configured ranges, and the limit: an event of the router, whose ranges are replaced by these and the
-        learned ones beside them. Where it isn't done the listener stays as it is."""
+        learned ones beside them. Where it isn't done the listener stays as it is. Where an RP is chosen for each group
+        the ranges are these alone, and then the router is given the candidates for which there is room."""
         static, bits, most = list(ranges), draw_of(draw), number(limit, 32, "a limit")
         with self.lock, router.lock:
             answer = self._call("ranges", router._router, most, *ranges_of(static), Draw(bits))
@@ -327,14 +355,17 @@ class Bsr:
             before, self.configured = self.configured, static
             if answer != Answer.DONE:
                 self.configured = before
-            return self._told(router, bits, answer, static)
+            given = ranges_of(self.given() if answer == Answer.DONE else static)
+            told = self._told(router, bits, answer, "ranges", given)
+            if told == Answer.DONE and self.choice() == Choice.GROUP:
+                self._give(router, bits)
+            return told
 
-    def _told(self, router: Router, bits: int, answered: int, refused: list[tuple[str, str]] | None = None) -> Answer:
-        """What the router answered to its ranges, which a recorder is told, if there is one."""
+    def _told(self, router: Router, bits: int, answered: int, name: str, given: tuple[Any, int]) -> Answer:
+        """What the router answered to ranges or candidates, which a recorder is told, if there is one."""
         answer = Answer(answered)
         if router._took is not None:
-            ranges = refused if refused is not None and answer != Answer.DONE else self.given()
-            router._took("ranges", bits, ranges_of(ranges), answer)
+            router._took(name, bits, given, answer)
         if answer == Answer.DONE:
             router._take()
         if answer in RAISED:
@@ -368,7 +399,19 @@ class Bsr:
                 rows.append(LearnedPart(groups_of(told), dotted(told.rp), *said))
         return rows
 
+    def choice(self) -> Choice:
+        """What an RP is chosen for; of a new listener a range."""
+        return Choice(self._call("choice"))
+
     def given(self) -> list[tuple[str, str]]:
-        """The ranges that the router is given: the configured ones, and those of the RPs that it is given."""
+        """The ranges that the router is given: the configured ones, and where an RP is chosen for a range those of the
+        RPs that it is given."""
         with self.lock:
-            return self.configured + [(row.groups, row.rp) for row in self.rps() if row.is_given]
+            learned = self.rps() if self.choice() == Choice.RANGE else []
+            return self.configured + [(row.groups, row.rp) for row in learned if row.is_given]
+
+    def candidates(self) -> list[tuple[str, str, int, int]]:
+        """The candidates that the router is given: all RPs in force where one is chosen for each group, else none."""
+        with self.lock:
+            offered = self.rps() if self.choice() == Choice.GROUP else []
+            return [(row.groups, row.rp, row.priority, row.hash_length) for row in offered]

@@ -21,11 +21,11 @@ from pathlib import Path
 from typing import Any, BinaryIO, NamedTuple, Self
 
 from . import (
-    NO_PLACE, Answer, Draw, Error, GivenCall, Router, RpSet, Settings, CInterface, CRange, CRoute, address, array,
-    dotted, rp_sets_of,
+    NO_PLACE, Answer, Draw, Error, GivenCall, Router, RpSet, Settings, CCandidate, CInterface, CRange, CRoute, address,
+    array, dotted, rp_sets_of,
 )
 
-MAGIC, VERSION = b"VQRC", 6
+MAGIC, VERSION = b"VQRC", 7
 # Of each kind of record: its letter, and the numbers that it has behind its draw. Bytes and lists follow these.
 KINDS: dict[str, tuple[str, tuple[str, ...]]] = {
     "advance": ("a", ("moment",)),
@@ -35,6 +35,7 @@ KINDS: dict[str, tuple[str, tuple[str, ...]]] = {
     "down": ("-", ("iface",)),
     "routes": ("r", ()),
     "ranges": ("g", ()),
+    "candidates": ("h", ()),
     "reload": ("c", ()),
     "reload_places": ("m", ()),
     "seen": ("s", ("iface", "source", "group")),
@@ -47,13 +48,13 @@ KINDS: dict[str, tuple[str, tuple[str, ...]]] = {
 NAMES = {letter: name for name, (letter, _) in KINDS.items()}
 # These are no events: they have no draw, and send nothing.
 QUIET = ("keep", "older", "query_version", "guard", "anycast")
-LISTS: dict[str, Any] = {"routes": CRoute, "ranges": CRange}
+LISTS: dict[str, Any] = {"routes": CRoute, "ranges": CRange, "candidates": CCandidate}
 # These are given a configuration, the second one where the interfaces go too.
 RELOADS = ("reload", "reload_places")
 # Each of these has a call of its own that writes its record.
 WITH_LISTS = (*LISTS, *RELOADS, "anycast")
 # The versions from which on these are recorded.
-SINCE = {"reload_places": 5, "anycast": 6}
+SINCE = {"reload_places": 5, "anycast": 6, "candidates": 7}
 
 
 class CAddress(Structure):

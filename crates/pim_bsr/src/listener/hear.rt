@@ -244,6 +244,7 @@ impl Listener {
         let alloc = *self.last.allocator();
         let moved = moves(
             alloc,
+            self.choice,
             self.configured.as_slice(),
             self.table.rps(),
             table.rps(),

@@ -5,7 +5,9 @@ ghost use Rattle.pim_bsr.specs.Text.{configured_of, configured_text, front_text,
 ghost use Rattle.pim_bsr.specs.Views.{known_view};
 
 use super::Listener;
-use crate::reading::{SavedKnown, SavedMessage, SavedRanges, SavedSaid, TAG, VERSION, read_known};
+use crate::reading::{
+    SavedKnown, SavedMessage, SavedRanges, SavedSaid, TAG, read_known, version_of,
+};
 use crate::refusal::ListenerRefusal;
 use crate::saved::Election;
 use crate::sound::is_sound;
@@ -60,7 +62,7 @@ impl Listener {
         ensures fitting { OnOk result (FitsKnown self.now) }
     {
         TAG.write(out)?;
-        VERSION.write(out)?;
+        version_of(self.choice).write(out)?;
         self.write_configured(out)?;
         self.write_said(out)?;
         self.write_last(out)?;
@@ -95,6 +97,7 @@ impl Listener {
             return Ok(Err(ListenerRefusal::RpsNotHeld));
         }
         let SavedKnown {
+            choice,
             configured: SavedRanges { ranges, limit },
             learned: SavedSaid { election, table },
             last: SavedMessage { bytes, end },
@@ -102,6 +105,7 @@ impl Listener {
         let listener = Listener {
             configured: ranges,
             limit: limit as usize,
+            choice,
             elected: election.elected,
             heard: election.heard,
             refresh_end: election.refresh_end,

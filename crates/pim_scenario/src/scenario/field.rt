@@ -1,9 +1,9 @@
 //! The values at the keys of a table.
 ghost use Rattle.std.specs.Prelude.{◌≡◌, is_ok, map, option_map};
 ghost use Rattle.std.specs.Result.{result_ok};
-ghost use Rattle.toml.specs.Data.{as_str, as_table, get_member};
+ghost use Rattle.toml.specs.Data.{as_bool, as_str, as_table, get_member};
 ghost use Rattle.toml.specs.View.{view, table_view};
-ghost use Rattle.pim_scenario.specs.Fields.{number_in, number_at, number_or, moment_of, moment_at, list_of, list_at};
+ghost use Rattle.pim_scenario.specs.Fields.{flag_or, number_in, number_at, number_or, moment_of, moment_at, list_of, list_at};
 ghost use Rattle.pim_scenario.specs.Fields.{list_or_empty, text_at, table_at, optional_text, has_only, is_known};
 
 use super::Wrong;
@@ -116,6 +116,23 @@ pub(super) fn number_or(table: &Table, key: &str, default: u32) -> Result<u32, W
 {
     match value_at(table, key) {
         Some(value) => number_in(value),
+        None => Ok(default),
+    }
+}
+
+/// The flag that a value is.
+fn flag_in(value: &Value) -> Result<bool, Wrong>
+    ensures { result_ok result ≡ as_bool (view value.now) }
+{
+    value.as_bool().ok_or(Wrong)
+}
+
+/// The flag at a key, or `default` where the key is not there.
+pub(super) fn flag_or(table: &Table, key: &str, default: bool) -> Result<bool, Wrong>
+    ensures { result_ok result ≡ flag_or default key.now (table_view table.now) }
+{
+    match value_at(table, key) {
+        Some(value) => flag_in(value),
         None => Ok(default),
     }
 }

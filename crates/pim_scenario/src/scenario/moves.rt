@@ -4,7 +4,7 @@ ghost use Rattle.std.specs.List.{AllZip};
 ghost use Rattle.std.specs.Result.{result_ok};
 ghost use Rattle.toml.specs.View.{view, table_view};
 ghost use Rattle.pim_scenario.specs.Fields.{number_at};
-ghost use Rattle.pim_scenario.specs.Scenario.{IsAdvance, IsCarry, IsDeliver, IsDown, IsEvent, IsFrame, IsKind, IsMove};
+ghost use Rattle.pim_scenario.specs.Scenario.{IsCandidates, IsAdvance, IsCarry, IsDeliver, IsDown, IsEvent, IsFrame, IsKind, IsMove};
 ghost use Rattle.pim_scenario.specs.Scenario.{IsReload, IsRestart, IsRoutes, IsRps, IsSettle, IsTable, IsUnicast, IsUp, bytes_at, draw_at, router_at};
 ghost use Rattle.pim_scenario.specs.Texts.{Reads, ReadsExactly};
 
@@ -121,6 +121,7 @@ fn kind_in(alloc: Global, table: &Table) -> Result<EventKind, Unread>
         "down" => down_in(table),
         "routes" => routes_in(alloc, table),
         "rps" => rps_in(alloc, table),
+        "candidates" => candidates_in(alloc, table),
         "frame" => frame_in(alloc, table),
         "unicast" => unicast_in(alloc, table),
         _ => Err(Unread::Wrong),
@@ -169,6 +170,15 @@ fn rps_in(alloc: Global, table: &Table) -> Result<EventKind, Unread>
     field::only(table, &["do", "router", "draw", "list"])?;
     Ok(EventKind::Rps {
         rps: routes::rps_in(alloc, field::list(table, "list")?)?,
+    })
+}
+
+fn candidates_in(alloc: Global, table: &Table) -> Result<EventKind, Unread>
+    ensures { ReadsExactly (IsCandidates (table_view table.now)) result }
+{
+    field::only(table, &["do", "router", "draw", "list"])?;
+    Ok(EventKind::RpCandidates {
+        candidates: routes::candidates_in(alloc, field::list(table, "list")?)?,
     })
 }
 

@@ -4,7 +4,7 @@ ghost use Rattle.std.specs.List.{AllZip};
 ghost use Rattle.std.specs.Result.{result_ok};
 ghost use Rattle.toml.specs.View.{view, table_view};
 ghost use Rattle.pim_scenario.specs.Scenario.{IsConfig, IsInterface, IsLink, IsRouter, IsTable};
-ghost use Rattle.pim_scenario.specs.Scenario.{names_after, front_at, guard_at, older_hosts_at, place_of, query_version_at, spt_switch_at, IsNumbered};
+ghost use Rattle.pim_scenario.specs.Scenario.{names_after, bsr_at, front_at, guard_at, older_hosts_at, place_of, query_version_at, rp_limit_at, spt_switch_at, IsNumbered};
 ghost use Rattle.pim_scenario.specs.Scenario.{HasNumbered, AreRouters};
 ghost use Rattle.pim_scenario.specs.Texts.{ReadsExactly};
 ghost use Rattle.pim_scenario.specs.Links.{names_in};
@@ -69,6 +69,8 @@ fn router_in<'a>(
             "query_version",
             "guard",
             "anycast",
+            "bsr",
+            "rp_limit",
             "addresses",
             "routes",
             "rps",
@@ -166,6 +168,8 @@ pub(super) fn front_in(table: &Table) -> Result<FrontText, Wrong>
         older_hosts: older_hosts_in(table)?,
         query_version: query_version_in(table)?,
         guard: guard_in(table)?,
+        bsr: bsr_in(table)?,
+        rp_limit: rp_limit_in(table)?,
     })
 }
 
@@ -197,6 +201,21 @@ fn guard_in(table: &Table) -> Result<bool, Wrong>
         None | Some("off") => Ok(false),
         Some("on") => Ok(true),
         Some(_) => Err(Wrong),
+    }
+}
+
+fn bsr_in(table: &Table) -> Result<bool, Wrong>
+    ensures { result_ok result ≡ bsr_at (table_view table.now) }
+{
+    field::flag_or(table, "bsr", false)
+}
+
+fn rp_limit_in(table: &Table) -> Result<u32, Wrong>
+    ensures { result_ok result ≡ rp_limit_at (table_view table.now) }
+{
+    match field::number_or(table, "rp_limit", FrontText::MOST_RPS)? {
+        limit @ 1..=FrontText::MOST_RPS => Ok(limit),
+        _ => Err(Wrong),
     }
 }
 

@@ -1,12 +1,13 @@
-//! Own addresses, routes and RP ranges: the texts of the lists `addresses`, `routes` and `rps`.
+//! Own addresses, routes, RP ranges and candidate RPs: the texts of the lists `addresses`, `routes` and `rps`, and of
+//! moves.
 ghost use Rattle.std.specs.Prelude.{map};
 ghost use Rattle.std.specs.List.{AllZip};
 ghost use Rattle.toml.specs.View.{view};
-ghost use Rattle.pim_scenario.specs.Scenario.{AreRouteWords, AreRpWords, IsText, WritesAddress};
+ghost use Rattle.pim_scenario.specs.Scenario.{AreCandidateWords, AreRouteWords, AreRpWords, IsText, WritesAddress};
 ghost use Rattle.pim_scenario.specs.Texts.{ReadsExactly};
 
 use super::{Unread, address, field, words};
-use pim_types::{Addr, IfaceId, Route, RpRange, Series};
+use pim_types::{Addr, IfaceId, Route, RpCandidate, RpRange, Series};
 use std::alloc::Global;
 use toml::Value;
 
@@ -45,6 +46,18 @@ pub(super) fn rps_in(alloc: Global, texts: &[Value]) -> Result<Series<RpRange>, 
     Ok(rps)
 }
 
+/// The candidate RPs that texts write.
+pub(super) fn candidates_in(alloc: Global, texts: &[Value]) -> Result<Series<RpCandidate>, Unread>
+    ensures { ReadsExactly (AllZip (IsText AreCandidateWords) (map view texts.now)) result }
+{
+    let mut candidates = Series::new(alloc);
+    for text in texts {
+        let words = words::split(alloc, field::text_of(text)?)?;
+        candidates.push(read_candidate(words.as_slice())?)?;
+    }
+    Ok(candidates)
+}
+
 /// A route: `prefix nexthop iface preference metric`.
 fn read_route(words: &[&str]) -> Result<Route, Unread>
     ensures { ReadsExactly (AreRouteWords (map (λ w. w.now) words.now)) result }
@@ -73,5 +86,20 @@ fn read_rp(words: &[&str]) -> Result<RpRange, Unread>
     Ok(RpRange {
         prefix: address::read_prefix(prefix)?,
         rp: address::read_address(rp)?,
+    })
+}
+
+/// A candidate RP: `prefix rp priority mask`.
+fn read_candidate(words: &[&str]) -> Result<RpCandidate, Unread>
+    ensures { ReadsExactly (AreCandidateWords (map (λ w. w.now) words.now)) result }
+{
+    let [prefix, rp, priority, mask] = words else {
+        return Err(Unread::Wrong);
+    };
+    Ok(RpCandidate {
+        prefix: address::read_prefix(prefix)?,
+        rp: address::read_address(rp)?,
+        priority: address::read_number(priority)?,
+        hash_length: address::read_number(mask)?,
     })
 }

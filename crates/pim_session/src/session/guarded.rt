@@ -46,7 +46,8 @@ impl Session {
             | LentKind::Up { .. }
             | LentKind::Down { .. }
             | LentKind::Routes { .. }
-            | LentKind::Rps { .. } => false,
+            | LentKind::Rps { .. }
+            | LentKind::RpCandidates { .. } => false,
         }
     }
 

@@ -1,5 +1,6 @@
 //! RPs that share an address: what comes of packets, sets that are refused, and what is announced.
 ghost use Rattle.pim_anycast.specs.Announced.{keys_named};
+ghost use Rattle.pim_model.specs.Unicast.{no_ranges, with_ranges};
 ghost use Rattle.std.specs.Prelude.{◌≡◌, ◌==◌, ◌&&◌, ◌∷◌, []};
 
 use pim_anycast::{Anycast, OwnAddresses, Passed, Rendezvous, RpSet};
@@ -141,7 +142,7 @@ struct Router {
 impl Rendezvous for Router {
     ghost present = { λ r. r.present };
 
-    ghost ranges = { λ r. r.range ∷ [] };
+    ghost ranges = { λ r. with_ranges no_ranges (r.range ∷ []) };
 
     ghost is_local = { λ r group source. (r.source.group.bits == group) && (r.source.source.bits == source) };
 
@@ -151,7 +152,7 @@ impl Rendezvous for Router {
         self.present
     }
 
-    #[tactic(auto, unfolding(pim_model::specs::Unicast::rp_among, pim_ip::specs::Prefixes::longest_match, pim_ip::specs::Prefixes::longer))]
+    #[tactic(auto, unfolding(pim_model::specs::Unicast::rp_among, pim_model::specs::Candidates::chosen_among, pim_ip::specs::Prefixes::longest_match, pim_ip::specs::Prefixes::longer))]
     fn rp(&self, group: Addr) -> Option<Addr> {
         if group.is_source_specific() || !self.range.prefix.contains(group) {
             return None;

@@ -1,7 +1,7 @@
 //! The listener for Bootstraps, on messages of many kinds.
 ghost use Rattle.std.specs.Prelude.{◌≡◌};
 
-use pim_bsr::{Heard, Listener, Surroundings, Why};
+use pim_bsr::{Choice, Heard, Listener, Surroundings, Why};
 use pim_ip::{Addr, Prefix, Refusal, write_pim_packet};
 use pim_types::{Emission, Hop, IfaceId, RpRange};
 use std::alloc::{AllocError, Global};
@@ -214,6 +214,11 @@ enum Step {
     // It would be given so many ranges beside a configured one.
     Beside(Addr, usize),
     Configure(Addr),
+    Choose(Choice),
+    // The router is given so many candidates.
+    Offers(usize),
+    // Beside a configured range, with room for so many RPs, it would be given others.
+    Loses(usize, bool),
     FirstEnd(Option<u64>),
     FirstGroup(Option<Addr>),
     SentOn(usize),
@@ -302,6 +307,15 @@ impl Play {
         Ok(())
     }
 
+    fn offered(&self) -> Result<usize, AllocError> {
+        Ok(self.listener.candidates(self.alloc)?.len())
+    }
+
+    fn loses_beside(&self, limit: usize) -> Result<bool, AllocError> {
+        let ranges = one_range(self.alloc, THIRD_RP)?;
+        Ok(self.listener.loses_beside(limit, &ranges))
+    }
+
     fn first_group(&self) -> Option<Addr> {
         let first = self.listener.rps().first();
         first.map(|learned| learned.prefix.address)
@@ -382,6 +396,9 @@ fn take(rt: &impl Abort, play: &mut Play, step: Step) -> Result<(), AllocError> 
         Step::Gives(want) => are(rt, play.given()?, want),
         Step::Beside(rp, count) => counts(rt, play.given_beside(rp)?, count),
         Step::Configure(rp) => play.configure(rp)?,
+        Step::Choose(choice) => play.listener.choose(choice),
+        Step::Offers(count) => counts(rt, play.offered()?, count),
+        Step::Loses(limit, want) => says(rt, play.loses_beside(limit)?, want),
         Step::FirstEnd(want) => ends(rt, play.listener.first_end(), want),
         Step::FirstGroup(want) => are(rt, play.first_group(), want),
         Step::SentOn(count) => counts(rt, play.out.len(), count),
@@ -433,6 +450,23 @@ fn a_configured_range_wins(rt: HostRuntime) -> Result<(), Fail> {
         Step::Gives(Some(FIRST_RP)),
         Step::Configure(THIRD_RP),
         Step::Gives(Some(THIRD_RP)),
+    ];
+    perform(&rt, rt.alloc(), 256, STEPS)
+}
+
+#[test]
+fn each_group_has_its_rp(rt: HostRuntime) -> Result<(), Fail> {
+    const STEPS: &[Step] = &[
+        Step::Hear(HEAD, 3, &[FIRST, SECOND, THIRD], Heard::Taken(true)),
+        Step::Offers(0),
+        Step::Loses(2, false),
+        Step::Choose(Choice::Group),
+        Step::Gives(None),
+        Step::Offers(3),
+        Step::Loses(3, false),
+        Step::Loses(2, true),
+        Step::Choose(Choice::Range),
+        Step::Gives(Some(FIRST_RP)),
     ];
     perform(&rt, rt.alloc(), 256, STEPS)
 }

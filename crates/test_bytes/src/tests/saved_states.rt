@@ -2,15 +2,15 @@
 use pim_ip::{Addr, LanDelay, Prefix};
 use pim_saved::SavedRefusal;
 use pim_saver::{
-    ReadFault, SavedGround, SavedLinks, SavedRecords, SavedState, SavedTrees, crc32, read_state,
-    write_state,
+    ReadFault, SavedGround, SavedHead, SavedLinks, SavedRecords, SavedState, SavedTrees, crc32,
+    read_state, write_state,
 };
 use pim_types::fact::{
     AssertMetric, AssertRole, AssertRow, DownstreamRow, GroupRecordRow, GroupRepeatRow,
     InterfaceRow, JoinTimerRow, NeighbourRow, OverrideTimerRow, QuerierRole, QuerierRow,
     RegisterRow, RegisterState, SendingRow, SourceRecordRow, SourceRepeatRow, SourceRow,
 };
-use pim_types::{IfaceId, InterfaceConfig, Key, Route, RpRange, Settings, SptSwitch};
+use pim_types::{IfaceId, InterfaceConfig, Key, Route, RpCandidate, RpRange, Settings, SptSwitch};
 use std::alloc::{AllocError, Global};
 use std::process::Abort;
 use std::test::Fail;
@@ -283,7 +283,10 @@ fn state(alloc: Global) -> Result<SavedState, AllocError> {
     let records = records(alloc)?;
     let trees = trees(alloc)?;
     Ok(SavedState {
-        addresses: Vec::new(alloc),
+        head: SavedHead {
+            candidates: Vec::new(alloc),
+            addresses: Vec::new(alloc),
+        },
         ground,
         links,
         records,
@@ -422,13 +425,13 @@ fn own_addresses_make_version_3(rt: HostRuntime) -> Result<(), Fail> {
     let alloc = rt.alloc();
     let expected = with_addresses(alloc, 2, &[10, 255, 1, 1, 10, 255, 1, 2])?;
     let mut state = state(alloc)?;
-    state.addresses.push(Addr { bits: 0x0AFF_0101 })?;
-    state.addresses.push(Addr { bits: 0x0AFF_0102 })?;
+    state.head.addresses.push(Addr { bits: 0x0AFF_0101 })?;
+    state.head.addresses.push(Addr { bits: 0x0AFF_0102 })?;
     let mut bytes = Vec::new(alloc);
     write_state(&state, &mut bytes)?;
     assert_eq!(rt; bytes.as_slice(), expected.as_slice());
     let again = read_state(alloc, &expected).ok().ok_or("it is read")?;
-    assert!(rt; again.addresses.as_slice() == state.addresses.as_slice());
+    assert!(rt; again.head.addresses.as_slice() == state.head.addresses.as_slice());
     Ok(())
 }
 
@@ -436,6 +439,65 @@ fn own_addresses_make_version_3(rt: HostRuntime) -> Result<(), Fail> {
 fn version_3_without_addresses_is_refused(rt: HostRuntime) -> Result<(), Fail> {
     let alloc = rt.alloc();
     let bytes = with_addresses(alloc, 0, &[])?;
+    refuses(&rt, alloc, &bytes, SavedRefusal::OutOfRange);
+    Ok(())
+}
+
+// Two RPs of 239.0.0.0/8: 10.99.0.1 of priority 192, and 10.88.0.9 of priority 0, both with a mask of 30 bits.
+const CANDIDATES: &[u8] = &[
+    0xEF, 0x00, 0x00, 0x00, 0x00, 0x00, 0x00, 0x08, 0x0A, 0x63, 0x00, 0x01, 0x00, 0x00, 0x00, 0xC0,
+    0x00, 0x00, 0x00, 0x1E, 0xEF, 0x00, 0x00, 0x00, 0x00, 0x00, 0x00, 0x08, 0x0A, 0x58, 0x00, 0x09,
+    0x00, 0x00, 0x00, 0x00, 0x00, 0x00, 0x00, 0x1E,
+];
+
+// An RP of 239.0.0.0/8, as it is read.
+fn candidate(rp: u32, priority: u32) -> RpCandidate {
+    RpCandidate {
+        prefix: Prefix {
+            address: Addr { bits: 0xEF00_0000 },
+            length: 8,
+        },
+        rp: Addr { bits: rp },
+        priority,
+        hash_length: 30,
+    }
+}
+
+// The state in version 4: one own address of no interface, so many candidates, these, and the rest.
+fn with_candidates(alloc: Global, count: u8, candidates: &[u8]) -> Result<Vec<u8>, Fail> {
+    let mut front = Vec::new(alloc);
+    front.extend_from_slice(&STATE[..5])?;
+    front.extend_from_slice(&[
+        4, 0, 0, 0, 0, 0, 0, 0, 1, 10, 255, 1, 1, 0, 0, 0, 0, 0, 0, 0,
+    ])?;
+    front.push(count)?;
+    front.extend_from_slice(candidates)?;
+    front.extend_from_slice(&STATE[6..SUM])?;
+    summed(alloc, &front)
+}
+
+#[test]
+fn candidates_make_version_4(rt: HostRuntime) -> Result<(), Fail> {
+    let alloc = rt.alloc();
+    let expected = with_candidates(alloc, 2, CANDIDATES)?;
+    let mut state = state(alloc)?;
+    state.head.addresses.push(Addr { bits: 0x0AFF_0101 })?;
+    state.head.candidates.push(candidate(0x0A63_0001, 192))?;
+    state.head.candidates.push(candidate(0x0A58_0009, 0))?;
+    let mut bytes = Vec::new(alloc);
+    write_state(&state, &mut bytes)?;
+    assert_eq!(rt; bytes.as_slice(), expected.as_slice());
+    let again = read_state(alloc, &expected).ok().ok_or("it is read")?;
+    assert_eq!(rt; again.head.candidates.len(), 2);
+    assert_eq!(rt; again.head.candidates[0].priority, 192);
+    assert_eq!(rt; again.head.candidates[1].rp.bits, 0x0A58_0009);
+    Ok(())
+}
+
+#[test]
+fn version_4_without_candidates_is_refused(rt: HostRuntime) -> Result<(), Fail> {
+    let alloc = rt.alloc();
+    let bytes = with_candidates(alloc, 0, &[])?;
     refuses(&rt, alloc, &bytes, SavedRefusal::OutOfRange);
     Ok(())
 }

@@ -11,9 +11,19 @@ const BSR: [u8; 4] = [10, 9, 0, 9];
 const LEARNED: [u8; 4] = [10, 9, 0, 7];
 const OTHER: [u8; 4] = [10, 9, 0, 8];
 const GROUP: [u8; 4] = [239, 9, 9, 9];
+/// RPs of 239.0.0.0/8. By RFC 7761, 4.7.2, their hash values with a mask of 30 bits are 2067580945, 240866473 and 53588824
+/// for 239.0.0.1, as FRR has them too; 418197941, 343260749 and 974265596 for 239.0.0.5; 612161605, 1478452445 and
+/// 657310604 for 239.0.0.21.
+const SEVERAL: [[u8; 4]; 3] = [[10, 99, 0, 1], [10, 88, 0, 9], [10, 77, 0, 2]];
+const GROUPS: [[u8; 4]; 3] = [[239, 0, 0, 1], [239, 0, 0, 5], [239, 0, 0, 21]];
 
 pub fn listening() -> String {
     format!("{TWO}[bsr]\nlisten = true\n")
+}
+
+/// One of several RPs of a range is chosen for each group.
+fn by_group() -> String {
+    format!("{}choice = \"group\"\n", listening())
 }
 
 /// The first interface is a border.
@@ -49,6 +59,31 @@ fn wide(rp: [u8; 4]) -> (Source, kernel::Event) {
     bootstrap(&[([239, 0, 0, 0], 8, rp)])
 }
 
+/// All of these RPs of 239.0.0.0/8.
+fn several() -> (Source, kernel::Event) {
+    said([10, 1, 0, 2], 3, &SEVERAL.map(|rp| ([239, 0, 0, 0], 8, rp)))
+}
+
+/// The RPs of the groups.
+fn rps(daemon: &Daemon) -> [Option<Ipv4Addr>; 3] {
+    GROUPS.map(|group| rp(daemon, group))
+}
+
+const SEVERAL_OF_GROUPS: [&str; 3] = ["10.99.0.1", "10.77.0.2", "10.88.0.9"];
+
+/// Those that are chosen for each group, and for the range.
+fn of_groups() -> [Option<Ipv4Addr>; 3] {
+    SEVERAL_OF_GROUPS.map(|rp| rp.parse().ok())
+}
+
+fn of_range() -> [Option<Ipv4Addr>; 3] {
+    [Some(SEVERAL[0].into()); 3]
+}
+
+fn takes(daemon: &mut Daemon, text: &str) {
+    daemon.take_settings(settings::read(text).expect("they are in order")).expect("it goes on");
+}
+
 fn rp(daemon: &Daemon, group: [u8; 4]) -> Option<Ipv4Addr> {
     show::rp_of(daemon, Ipv4Addr::from(group).into())
 }
@@ -64,8 +99,9 @@ fn shown(daemon: &mut Daemon, topic: &str) -> Value {
     let mut told = Vec::new();
     show::answer(daemon, &format!("show {topic} json"), &mut told).expect("it is told");
     let told: Value = serde_json::from_slice(&told).expect("JSON");
-    assert!(Schema::read(&format!("show-{topic}")).fits(&told), "{told}");
-    told[topic].clone()
+    let name = topic.split(' ').next().expect("a name");
+    assert!(Schema::read(&format!("show-{name}")).fits(&told), "{told}");
+    told[name].clone()
 }
 
 #[test]
@@ -119,9 +155,6 @@ fn nothing_is_learned_where_the_settings_say_so() {
 fn other_settings_leave_what_is_learned() {
     let (mut daemon, fake) = begun(&listening(), &both());
     happens(&mut daemon, &fake, wide(LEARNED));
-    let takes = |daemon: &mut Daemon, text: &str| {
-        daemon.take_settings(settings::read(text).expect("they are in order")).expect("it goes on");
-    };
     // Another configuration, other ranges, and one that is learned too.
     takes(&mut daemon, &format!("limit = 70000\n{}", listening()));
     assert_eq!((daemon.counters.reloaded, rp(&daemon, GROUP)), (1, Some(LEARNED.into())));
@@ -136,6 +169,111 @@ fn other_settings_leave_what_is_learned() {
     assert_eq!(rp(&daemon, GROUP), Some(LEARNED.into()));
     takes(&mut daemon, TWO);
     assert_eq!((rp(&daemon, GROUP), rp(&daemon, [239, 2, 1, 1])), (None, Some([10, 9, 0, 1].into())));
+}
+
+#[test]
+fn each_group_has_its_own_rp_where_the_settings_say_so() {
+    let (mut daemon, fake) = begun(&by_group(), &both());
+    happens(&mut daemon, &fake, several());
+    assert_eq!((rps(&daemon), daemon.counters.bootstrap_moves), (of_groups(), 1));
+    // What the file has wins for its own range.
+    happens(&mut daemon, &fake, bootstrap(&[([239, 1, 0, 0], 16, LEARNED)]));
+    assert_eq!(rp(&daemon, [239, 1, 1, 1]), Some([10, 1, 0, 1].into()));
+    passes(&mut daemon, &fake, 149_900);
+    assert_eq!(rps(&daemon), of_groups());
+    passes(&mut daemon, &fake, 200);
+    assert_eq!((rps(&daemon), rp(&daemon, [239, 1, 1, 1])), ([None; 3], Some([10, 1, 0, 1].into())));
+    let (mut daemon, fake) = begun(&listening(), &both());
+    happens(&mut daemon, &fake, several());
+    assert_eq!(rps(&daemon), of_range());
+}
+
+#[test]
+fn another_choice_is_taken_while_the_router_runs() {
+    let (mut daemon, fake) = begun(&listening(), &both());
+    happens(&mut daemon, &fake, several());
+    for (text, wanted) in [(by_group(), of_groups()), (listening(), of_range()), (by_group(), of_groups())] {
+        takes(&mut daemon, &text);
+        assert_eq!((rps(&daemon), rp(&daemon, [239, 1, 1, 1])), (wanted, Some([10, 1, 0, 1].into())));
+    }
+    // With another configuration, with fewer RPs, and without Bootstraps.
+    takes(&mut daemon, &format!("limit = 70000\n{}", by_group()));
+    assert_eq!((daemon.counters.reloaded, rps(&daemon)), (1, of_groups()));
+    takes(&mut daemon, &by_group().replace("239.2.0.0/16", "239.0.0.0/8"));
+    assert_eq!(rps(&daemon), [Some([10, 9, 0, 1].into()); 3]);
+    takes(&mut daemon, &format!("{}limit = 1\n", by_group()));
+    assert_eq!((rps(&daemon), daemon.core.candidates().len()), (of_range(), 1));
+    takes(&mut daemon, TWO);
+    assert_eq!((rps(&daemon), rp(&daemon, [239, 2, 1, 1])), ([None; 3], Some([10, 9, 0, 1].into())));
+}
+
+#[test]
+fn a_router_in_the_place_of_another_one_has_the_choice_of_its_settings() {
+    let texts = [(listening(), of_range()), (by_group(), of_groups()), (TWO.to_string(), [None; 3])];
+    for before in [listening(), by_group()] {
+        let (mut daemon, fake) = begun(&before, &both());
+        happens(&mut daemon, &fake, several());
+        for (text, wanted) in &texts {
+            let other = same_machine(&fake);
+            let mut next = resumed(text, &other, left_by(&daemon), Way::Whole);
+            assert_eq!(rps(&next), *wanted, "{before} and then {text}");
+            passes(&mut next, &other, 151_000);
+            assert_eq!(rps(&next), [None; 3]);
+        }
+        // One that kept nothing of Bootstraps: what its router has stays until they are heard.
+        for (text, wanted) in &texts[..2] {
+            let (other, (left, saved)) = (same_machine(&fake), left_by(&daemon));
+            let mut next = resumed(text, &other, (Left { listener: None, ..left }, saved), Way::Whole);
+            assert_eq!(rps(&next), rps(&daemon));
+            happens(&mut next, &other, several());
+            passes(&mut next, &other, 1_500);
+            assert_eq!(rps(&next), *wanted, "{before} and then {text}");
+            passes(&mut next, &other, 151_000);
+            assert_eq!(rps(&next), [None; 3]);
+        }
+    }
+}
+
+/// What `show rp GROUP` prints.
+fn of_group(daemon: &mut Daemon, group: [u8; 4]) -> Value {
+    let group = Ipv4Addr::from(group);
+    let told = shown(daemon, &format!("rp {group}"));
+    told.as_array().expect("rows").iter().map(|row| row["rp"].clone()).collect()
+}
+
+#[test]
+fn which_rp_is_chosen_is_shown() {
+    let (mut daemon, fake) = begun(&by_group(), &both());
+    happens(&mut daemon, &fake, several());
+    for group in GROUPS {
+        happens(&mut daemon, &fake, report(ETH1, [10, 5, 0, 77], group.into()));
+    }
+    let learned = |daemon: &mut Daemon| {
+        let rows = shown(daemon, "rp");
+        let rows = rows.as_array().expect("rows").iter().filter(|row| row["from"] == json!("bsr"));
+        rows.map(|row| (row["rp"].clone(), row["chosen_for"].clone(), row["used_by"].clone())).collect::<Vec<_>>()
+    };
+    let row =
+        |rp: [u8; 4], chosen: &str, used: u32| (json!(Ipv4Addr::from(rp).to_string()), json!(chosen), json!(used));
+    assert_eq!(learned(&mut daemon), SEVERAL.map(|rp| row(rp, "groups", 1)));
+    assert_eq!(GROUPS.map(|group| of_group(&mut daemon, group)), SEVERAL_OF_GROUPS.map(|rp| json!([rp])));
+    let rows = shown(&mut daemon, "rp");
+    assert_eq!((&rows[0]["chosen_for"], &rows[0]["hash_length"]), (&json!("range"), &Value::Null));
+    assert_eq!(rows.as_array().and_then(|rows| rows.last()).expect("a row")["hash_length"], json!(30));
+    assert!(shown(&mut daemon, "bsr").as_array().expect("rows")[1..].iter().all(|row| row["in_use"] == json!(true)));
+    takes(&mut daemon, &listening());
+    let [first, second, third] = SEVERAL;
+    let of_range = [row(first, "range", 3), row(second, "nothing", 0), row(third, "nothing", 0)];
+    assert_eq!(learned(&mut daemon), of_range);
+    takes(&mut daemon, &by_group().replace("239.2.0.0/16", "239.0.0.0/8"));
+    assert_eq!(learned(&mut daemon), SEVERAL.map(|rp| row(rp, "nothing", 0)));
+    assert_eq!(of_group(&mut daemon, GROUPS[1]), json!(["10.9.0.1"]));
+    let ways = shown(&mut daemon, "rpf");
+    assert!(ways.as_array().expect("rows").iter().all(|row| row["address"] != json!("10.88.0.9")));
+    let metrics = crate::metrics::text(&mut daemon).expect("they are told");
+    for wanted in ["viqeshor_bootstrap_ranges 1", "viqeshor_bootstrap_candidates 3"] {
+        assert!(metrics.lines().any(|line| line == wanted), "{wanted}");
+    }
 }
 
 #[test]

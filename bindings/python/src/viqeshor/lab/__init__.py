@@ -28,13 +28,15 @@ from viqeshor.lab.hosts import Host, Received
 from viqeshor.lab.mistakes import Mistake
 from viqeshor.lab.network import Network
 from viqeshor.lab.printed import (
-    NEVER, Active, AssertState, Downstream, GroupRecord, Neighbour, OlderHosts, SharedTree, SourceRecord, Upstream,
+    NEVER, Active, AssertState, Downstream, ElectedBsr, GroupRecord, LearnedRp, Neighbour, OlderHosts, SharedTree,
+    SourceRecord, Upstream,
 )
 from viqeshor.lab.tables import Table
 from viqeshor.lab.topology import Link, Port, Router
 from viqeshor.lab.tree import Tree
 
 __all__ = [
-    "NEVER", "Active", "AssertState", "Downstream", "GroupRecord", "Host", "Link", "Mistake", "Neighbour", "Network",
-    "OlderHosts", "Port", "Received", "Router", "SharedTree", "SourceRecord", "Table", "Tree", "Upstream",
+    "NEVER", "Active", "AssertState", "Downstream", "ElectedBsr", "GroupRecord", "Host", "LearnedRp", "Link", "Mistake",
+    "Neighbour", "Network", "OlderHosts", "Port", "Received", "Router", "SharedTree", "SourceRecord", "Table", "Tree",
+    "Upstream",
 ]

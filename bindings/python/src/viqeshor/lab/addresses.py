@@ -1,4 +1,4 @@
-"""Addresses, prefixes, routes and RP ranges as a scenario writes them: all tools read them here.
+"""Addresses, prefixes, routes, RP ranges and candidate RPs as a scenario writes them: all tools read them here.
 
 A text is read as the program reads it: decimal numbers without leading zeros in an address, any zeros before other
 numbers, numbers below 2^32, and between the words of a route what Unicode calls white space.
@@ -23,7 +23,7 @@ WHITE_SPACE = re.compile("[\t-\r \x85\xa0\u1680\u2000-\u200a\u2028\u2029\u202f\u
 
 
 def words_in(text: str) -> list[str]:
-    """The words of a route or a range."""
+    """The words of a route, a range or a candidate."""
     return [word for word in WHITE_SPACE.split(text) if word]
 
 
@@ -71,7 +71,7 @@ def mask(length: int) -> int:
     return (BELOW - 1) << (32 - length) & (BELOW - 1)
 
 
-# ---- routes and ranges of a scenario
+# ---- routes, ranges and candidates of a scenario
 
 
 def route_words(text: str) -> tuple[str | int, ...]:
@@ -84,6 +84,12 @@ def range_words(text: str) -> tuple[str, str]:
     """The parts of an RP range as they are written: prefix and RP."""
     prefix, rp = words_in(text)
     return prefix, rp
+
+
+def candidate_words(text: str) -> tuple[str, str, int, int]:
+    """The parts of a candidate RP: prefix and RP as they are written, priority, and the bits of its hash mask."""
+    prefix, rp, priority, hash_length = words_in(text)
+    return prefix, rp, int(priority), int(hash_length)
 
 
 @dataclass(frozen=True)

@@ -33,6 +33,7 @@ REFUSALS = {
     39: "BadScenario",
     70: "OwnAddresses",
     73: "PlacesDontFit",
+    76: "BadCandidates",
     74: "BadRpSet",
 }
 # The numbers of reasons to ignore.
@@ -61,7 +62,7 @@ MEANINGS = {
     "2": "the IP version isn't 4, or PIM's isn't 2",
     "3": "a checksum is wrong: the IP header's, PIM's or IGMP's",
     "4": "a wrong IP length; more than 1,500 bytes, 1,528 as a unicast; a Hello option of a wrong length; a query of "
-         "9 to 11 bytes",
+         "9 to 11 bytes; a mask in a Bootstrap outside 4 to 32 bits",
     "5": "an IP source that no host has, an encoded address of another family, or a wrong source in an Assert",
     "6": "a group field, or the destination of a registered packet, isn't in 224.0.0.0/4",
     "7": "IGMPv1 or IGMPv2 that the router doesn't hear: by its `older_hosts`, of a group of 224.0.0.0/24 or SSM, or "
@@ -72,7 +73,8 @@ MEANINGS = {
     "21": "the moment is above 2^62",
     "22": "the router has no interface of this number; they are counted from 0",
     "23": "the interface is down when the packet comes: an `up` is missing before, or the packet is lost on purpose",
-    "24": "it needs more new facts than `limit` leaves room for, or is the Hello of a 65th neighbour on the interface",
+    "24": "it needs more new facts than `limit` leaves room for, or is the Hello of a 65th neighbour on the "
+          "interface, or a Bootstrap of too many RPs",
     "73": "the map of places has no line for an interface, names a place that the other configuration doesn't have, "
           "or names one twice",
     "74": "sets of RPs that share an address don't fit the router's addresses, or each other",
@@ -88,6 +90,13 @@ MEANINGS = {
     "Already": "`up` of an interface that is up, or `down` of one that is down",
     "Guarded": "the guard stops a Register with IGMP or PIM inside, or for 224.0.0.0/24, and PIM on a link to another "
                "group",
+    "OwnBsr": "a Bootstrap whose BSR is an address of the router",
+    "Scoped": "a Bootstrap of an admin scope zone: these aren't built",
+    "LateRefresh": "a Bootstrap with the No-Forward bit, after one counted, or more than 60 s after the start",
+    "NotFromRpf": "a Bootstrap from another neighbour or interface than the route to its BSR has, or without such a "
+                  "route",
+    "NotPreferred": "a Bootstrap of another BSR than the elected one, with a lower priority, or with the same and a "
+                    "lower address",
 }
 # ---- rows
 # The rows of the definitions: the first number of each, and its columns, each a kind with its words.

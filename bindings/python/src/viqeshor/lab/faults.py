@@ -17,10 +17,11 @@ from viqeshor.lab.addresses import BELOW, address_in, dotted, is_group, is_host,
 from viqeshor.lab.facts import DELAYS, SETTINGS, USUAL
 
 MOST_ROUTERS, MOST_IFACES, MOST_ROUTES, MOST_RPS, MOST_ADDRESSES, MOST_OTHERS = 64, 120, 100_000, 256, 16, 16
+MOST_CANDIDATES = 256
 
 CONFIG_KEYS = [
-    "iface", "limit", "spt", "rv", "qi", "qri", "lmqi", "older_hosts", "query_version", "guard", "anycast", "addresses",
-    "routes", "rps",
+    "iface", "limit", "spt", "rv", "qi", "qri", "lmqi", "older_hosts", "query_version", "guard", "anycast", "bsr",
+    "rp_limit", "addresses", "routes", "rps",
 ]
 ROUTER_KEYS = ["name", *CONFIG_KEYS]
 IFACE_KEYS = ["link", "address", "priority", "propagation", "override"]
@@ -32,6 +33,7 @@ MOVE_KEYS = {
     "unicast": ["router", "hex", "draw"],
     "routes": ["router", "list", "draw"],
     "rps": ["router", "list", "draw"],
+    "candidates": ["router", "list", "draw"],
     "deliver": ["router", "iface", "frame", "draw"],
     "carry": ["router", "frame", "draw"],
     "settle": ["draw"],
@@ -40,6 +42,7 @@ MOVE_KEYS = {
 }
 ROUTE_FORM = '"PREFIX NEXTHOP IFACE PREFERENCE METRIC", as "10.1.0.0/24 10.0.0.1 0 110 20"'
 RP_FORM = '"PREFIX RP", as "239.0.0.0/8 10.0.0.1"'
+CANDIDATE_FORM = '"PREFIX RP PRIORITY MASK", as "239.0.0.0/8 10.0.0.1 192 30"'
 SET_FORM = '"SHARED OWN OTHER ..", as "10.9.9.9 10.0.0.2 10.0.0.3"'
 ADDRESS_FORM = '"ADDRESS", as "10.255.0.1"'
 PLACE_FORM = 'the number of an interface of the configuration as a text, as "0", or "none"'
@@ -61,6 +64,7 @@ FORMS = {
     "list of anycast": f"a list of sets of RPs that share an address, each {SET_FORM}",
     "list of routes": f"a list of routes, each {ROUTE_FORM}",
     "list of rps": f"a list of RP ranges, each {RP_FORM}",
+    "list of candidates": f"a list of candidate RPs, each {CANDIDATE_FORM}",
 }
 
 
@@ -93,6 +97,13 @@ class Route:
     next_hop: int
     iface: int = 0
     preference: int = 0
+
+
+@dataclass
+class Candidate(Route):
+    """A candidate RP, which has the place of a next hop."""
+    priority: int = 0
+    hash_length: int = 0
 
 
 @dataclass(frozen=True)
@@ -259,11 +270,21 @@ class Judge:
         version = table.get("query_version")
         if version is not None and self.number(table, "query_version", 3, where) not in (2, 3, None):
             self.fault(version.line, where, f"`query_version` is {found(version)}, and wanted is 2 or 3")
+        self.flag(table, "bsr", where)
+        limit = table.get("rp_limit")
+        if limit is not None and not 1 <= (self.number(table, "rp_limit", MOST_RPS, where) or 1) <= MOST_RPS:
+            self.fault(limit.line, where, f"`rp_limit` is {found(limit)}, and wanted is 1 to {MOST_RPS}")
         made["sets"] = self.texts(table, "anycast", where, self.rp_set, FORMS["list of anycast"], False)
         made["addresses"] = self.texts(table, "addresses", where, self.own, FORMS["list of addresses"], False)
         made["routes"] = self.texts(table, "routes", where, self.route, FORMS["list of routes"], False)
         made["rps"] = self.texts(table, "rps", where, self.rp, FORMS["list of rps"], False)
         return made
+
+    def flag(self, table: toml_lines.Value, key: str, where: str) -> None:
+        """A truth value that may be missing."""
+        value = table.get(key)
+        if value is not None and value.kind != "truth value":
+            self.fault(value.line, where, f"`{key}` is {found(value)}, and wanted is true or false")
 
     def word(self, table: toml_lines.Value, key: str, words: tuple[str, ...], where: str) -> None:
         """A text that may be missing, and else is one of these."""
@@ -363,6 +384,22 @@ class Judge:
             return self.fault(
                 inner.line, place, f'"{inner.held}" has {count(words)}, and an RP range has two: {RP_FORM}'
             )
+        found_here = self.groups_and_rp(words, inner, place)
+        return Route(inner.line, inner.held, *found_here) if found_here else None
+
+    def candidate(self, words: list[str], inner: toml_lines.Value, place: str) -> Candidate | None:
+        if len(words) != 4:
+            what = f'"{inner.held}" has {count(words)}, and a candidate RP has four: {CANDIDATE_FORM}'
+            return self.fault(inner.line, place, what)
+        found_here = self.groups_and_rp(words, inner, place)
+        self.numbers(words[2:], ("priority", "length of the mask"), inner, place)
+        priority, length = map(number_in, words[2:])
+        if found_here is None or priority is None or length is None:
+            return None
+        return Candidate(inner.line, inner.held, *found_here, priority=priority, hash_length=length)
+
+    def groups_and_rp(self, words: list[str], inner: toml_lines.Value, place: str) -> tuple[int, int, int] | None:
+        """The address and the length of a prefix, and the RP behind it."""
         prefix, rp = prefix_in(words[0]), address_in(words[1])
         if prefix is None:
             self.fault(inner.line, place, f'"{inner.held}": the prefix is wrong: {why_no_prefix(words[0])}')
@@ -370,7 +407,7 @@ class Judge:
             self.fault(
                 inner.line, place, f'"{inner.held}": the RP `{words[1]}` is no address: {why_no_address(words[1])}'
             )
-        return Route(inner.line, inner.held, *prefix, rp) if prefix and rp is not None else None
+        return (*prefix, rp) if prefix and rp is not None else None
 
     def rp_set(self, words: list[str], inner: toml_lines.Value, place: str) -> RpSet | None:
         if len(words) < 2:
@@ -425,8 +462,8 @@ class Judge:
                 router["later"] += ifaces[len(router["ifaces"]) + len(router["later"]):]
 
     def entries(self, kind: str, table: toml_lines.Value, where: str = "") -> list[Route]:
-        """The routes of a move `routes`, or the ranges of a move `rps`."""
-        read = self.route if kind == "routes" else self.rp
+        """The routes of a move `routes`, the ranges of a move `rps`, or the candidates of a move `candidates`."""
+        read = {"routes": self.route, "rps": self.rp, "candidates": self.candidate}[kind]
         return self.texts(table, "list", where, read, FORMS[f"list of {kind}"], True)
 
     def of_router(self, table: toml_lines.Value, where: str) -> None:
@@ -527,14 +564,27 @@ def rp_fault(route: Route) -> str | None:
     return None if is_host(route.next_hop) else f"the RP {dotted(route.next_hop)} is no host's address"
 
 
-def list_faults(routes: list[Route], most: int, one: Callable[[Route], str | None]) -> Iterator[tuple[int, str]]:
-    """What is wrong with a list of routes or RP ranges, as (line, text)."""
+def candidate_fault(candidate: Candidate) -> str | None:
+    """Why a candidate RP is refused, or None."""
+    if (what := rp_fault(candidate)) is not None:
+        return what
+    if candidate.priority > 255:
+        return f"the priority {candidate.priority} is above 255"
+    length = candidate.hash_length
+    return f"the hash mask has {length} bits, and at most 32 are allowed" if length > 32 else None
+
+
+def list_faults(
+    routes: list[Route], most: int, one: Callable[[Route], str | None], has_rps: bool = False
+) -> Iterator[tuple[int, str]]:
+    """What is wrong with a list of routes or RP ranges, as (line, text); or of candidates, of which a prefix may have
+    several RPs."""
     if len(routes) > most:
         yield routes[most].line, f"there are {len(routes)}, and at most {most} are allowed"
-    lines = {}
+    lines, what_twice = {}, "this RP stands twice for its prefix" if has_rps else "this prefix stands twice"
     for route in routes:
-        key = (route.address, route.length)
-        what = one(route) or (f"this prefix stands twice: in line {lines[key]} already" if key in lines else None)
+        key = (route.address, route.length, route.next_hop if has_rps else None)
+        what = one(route) or (f"{what_twice}: in line {lines[key]} already" if key in lines else None)
         lines.setdefault(key, route.line)
         if what:
             yield route.line, f'"{route.text}": {what}'

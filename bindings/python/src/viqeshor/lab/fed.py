@@ -5,7 +5,7 @@ from collections.abc import Iterable, Iterator
 from dataclasses import dataclass
 from typing import TYPE_CHECKING, Any
 
-from viqeshor.lab.addresses import dotted, prefix_in, range_words, route_words, words_in
+from viqeshor.lab.addresses import candidate_words, dotted, prefix_in, range_words, route_words, words_in
 from viqeshor.lab.facts import DELAYS, SETTINGS, USUAL
 
 if TYPE_CHECKING:
@@ -55,6 +55,11 @@ def ranges(texts: Iterable[str]) -> Iterator[tuple[str, str]]:
     return map(range_words, texts)
 
 
+def candidates(texts: Iterable[str]) -> Iterator[tuple[str, str, int, int]]:
+    """Each candidate RP: prefix, RP, priority, bits of the hash mask."""
+    return map(candidate_words, texts)
+
+
 def event(step: Step) -> Event | None:
     """The event that a step was to its router; None where the move itself was refused."""
     did = step.did
@@ -69,7 +74,7 @@ def event(step: Step) -> Event | None:
         return Event(kind, draw, (did["iface"],))
     if kind == "advance":
         return Event(kind, draw, (did["moment"],))
-    if kind in ("routes", "rps"):
+    if kind in ("routes", "rps", "candidates"):
         return Event({"rps": "ranges"}.get(kind, kind), draw, (did["list"],))
     return None
 

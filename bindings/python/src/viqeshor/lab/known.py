@@ -6,20 +6,22 @@ from __future__ import annotations
 
 from collections.abc import Callable, Iterable
 from dataclasses import dataclass, field, replace
-from ipaddress import ip_address
+from ipaddress import IPv4Network, ip_address
 from typing import TYPE_CHECKING, Any, TypeVar
 
 from viqeshor.lab import packets, printed, wishes
 from viqeshor.lab.addresses import ranges_of, routes_of
 from viqeshor.lab.scenario import numbers_after, places_of, router_of
+from viqeshor.lab.learner import Learner, hears
+from viqeshor.lab.rps import Candidate, candidates_of
 from viqeshor.lab.twin import Twin
 
 if TYPE_CHECKING:
-    from ipaddress import IPv4Network
     from viqeshor.lab.addresses import Route
     from viqeshor.lab.scenario import Interface, Router, Scenario
     from viqeshor.lab.story import Step, Tables
     from viqeshor import Link, Neighbour, Router as Core, SourceTree, Tree
+    from viqeshor.bsr import LearnedRp
 
     R = TypeVar("R")
     T = TypeVar("T")
@@ -27,13 +29,14 @@ if TYPE_CHECKING:
 
 @dataclass
 class Known:
-    """A router with what it knows after so many events: its routes and RP ranges after all moves, and by interface the
-    last other router that queried there from a lower address. Its rows are those that were `told`, else, as all else,
-    they are asked of its twin; answers are kept until it takes another event."""
+    """A router with what it knows after so many events: its routes, RP ranges and candidate RPs after all moves, and by
+    interface the last other router that queried there from a lower address. Its rows are those that were `told`, else,
+    as all else, they are asked of its twin; answers are kept until it takes another event."""
     router: Router
     twin: Twin
     routes: list[Route]
     rps: list[tuple[IPv4Network, str]]
+    candidates: list[Candidate] = field(default_factory=list)
     told: list[printed.Row] | None = None
     queriers: dict[int, str] = field(default_factory=dict)
     taken: int = 0
@@ -94,6 +97,11 @@ class Known:
         """The macros of a tree, (*,G) where the source is ANY."""
         return self.tree(group) if source == printed.ANY else self.source_tree(group, source)
 
+    def learned(self) -> list[LearnedRp]:
+        """The RPs that its listener learned of Bootstraps; none where it has no listener."""
+        core = self.core()
+        return self.once(("learned",), core.bsr.rps) if isinstance(core, Learner) else []
+
     def port(self, number: int) -> Link | None:
         """An interface with its DR and its querier; None where it isn't configured now."""
         return self.asked("link", number)
@@ -110,6 +118,11 @@ class Known:
     def up(self) -> set[int]:
         """The interfaces that are up, by their numbers."""
         return {each.number for each in self.interfaces_up()}
+
+    def own_ranges(self) -> list[IPv4Network]:
+        """The ranges of which it is the RP, or one of several, by what it was told itself."""
+        named = [*self.rps, *((each.prefix, each.rp) for each in self.candidates)]
+        return list(dict.fromkeys(prefix for prefix, rp in named if self.router.has(rp)))
 
     def configured(self) -> list[Interface]:
         """The interfaces that it has; those that a `reload` removed can be looked up as well."""
@@ -154,10 +167,24 @@ def follow(state: Known, step: Step) -> None:
             state.routes = routes_of(step.did["list"])
         case "rps":
             state.rps = ranges_of(step.did["list"])
+        case "candidates":
+            state.candidates = candidates_of(step.did["list"])
         case "reload":
             reload(state, step.did)
         case "frame" | "deliver" | "settle":
             hear_query(state, step)
+    learn(state)
+
+
+def learn(state: Known) -> None:
+    """The ranges of a router that hears Bootstraps are those that its listener gives it."""
+    if hears(state.router.table):
+        state.rps = given_of(state.twin, state.taken)
+
+
+def given_of(twin: Twin, count: int) -> list[tuple[IPv4Network, str]]:
+    """The ranges that a router has of its listener after so many events."""
+    return [(IPv4Network(prefix), rp) for prefix, rp in twin.given(count) or []]
 
 
 def reload(state: Known, did: dict[str, Any]) -> None:

@@ -11,7 +11,7 @@ from typing import TYPE_CHECKING, Any, Self
 
 from viqeshor.lab import packets, words
 from viqeshor.lab.addresses import address_in, is_host, prefix_in
-from viqeshor.lab.faults import ROUTER_KEYS, faults_of
+from viqeshor.lab.faults import ROUTER_KEYS, Candidate, candidate_fault, faults_of
 from viqeshor.lab.hosts import Host
 from viqeshor.lab.lines import calling
 from viqeshor.lab.mistakes import (
@@ -65,7 +65,7 @@ class Network:
         self.routers: Named[Router] = Named("router")
         self.links: Named[Link] = Named("link")
         self.hosts: Named[Host] = Named("host")
-        self.ranges, self.fixed = [], {}
+        self.ranges, self.named, self.fixed = [], [], {}
         self.now = self.present = self.stepped = 0
         self.alone = set()
         self.player, self.sent, self.paths, self.odd = None, [], {}, []
@@ -155,6 +155,30 @@ class Network:
     def rp(self, router: Router | str, groups: str = "224.0.0.0/4", address: str | None = None) -> None:
         """The RP of a range of groups. Where no address of it is given, it is that of a link of its own, which never
         fails."""
+        address = self.rp_given(router, groups, address)
+        self.ranges = [row for row in self.ranges if row[0] != groups]
+        self.ranges.append((groups, address))
+        if self.player:
+            self.each("rps", lambda router: self.rps())
+
+    def candidate(
+        self, router: Router | str, groups: str = "224.0.0.0/4", priority: int = 192, mask: int = 30,
+        address: str | None = None, at: Router | str | None = None
+    ) -> None:
+        """A candidate RP of a range of groups, of which several may be: of each group routers choose one of them, as if
+        Bootstraps had told all of them, or one `at` alone. The lower priority is preferred; `mask` has the bits of the
+        hash function's. The address is as of `rp`."""
+        number_given(priority, "priority of an RP", 0, 255, is_whole=True)
+        number_given(mask, "length of a hash mask", 0, 32, is_whole=True)
+        address, at = self.rp_given(router, groups, address), None if at is None else self.known_router(at)
+        if what := candidate_fault(Candidate(0, groups, *prefix_in(groups), address_in(address), 0, 0, priority, mask)):
+            raise Mistake(what)
+        self.named.append((f"{groups} {address}", at, f"{priority} {mask}"))
+        if self.player:
+            self.each("candidates", self.candidates_of)
+
+    def rp_given(self, router: Router | str, groups: str, address: str | None) -> str:
+        """The address of a router by which it is the RP of a range."""
         router = self.known_router(router)
         if self.script:
             raise Mistake("the RPs of this network are those of its file")
@@ -162,10 +186,12 @@ class Network:
             raise Mistake(f"{groups!r} is no range of groups: it is one as \"239.0.0.0/8\"")
         if address is not None and (not isinstance(address, str) or not is_host(address_in(address) or 0)):
             raise Mistake(f"{shown(address)} is no address of an RP: it is one as \"10.0.1.1\"")
-        self.ranges = [row for row in self.ranges if row[0] != groups]
-        self.ranges.append((groups, address or self.loopback(router)))
-        if self.player:
-            self.each("rps", lambda router: self.rps())
+        return address or self.loopback(router)
+
+    def candidates_of(self, router: Router) -> list[str]:
+        """The candidate RPs of which a router was told, each as it was last."""
+        told = {named: rest for named, at, rest in self.named if at in (None, router)}
+        return [f"{named} {rest}" for named, rest in told.items()]
 
     def rps(self) -> list[str]:
         return [f"{prefix} {address}" for prefix, address in self.ranges]
@@ -300,6 +326,8 @@ class Network:
             raise Mistake("; ".join(f"{fault.where}: {fault.what}" for fault in judge.faults))
         self.begin(tables)
         moves = [self.turned(port) for router in self.routers.values() for port in router.ports if port.is_up()]
+        moves += [self.news("candidates", router, texts) for router in self.routers.values()
+                  if (texts := self.candidates_of(router))]
         self.traffic.schedule(Action(moves), 0, (START,))
 
     def begin(self, tables: list[dict[str, Any]], coming: Sequence[dict[str, Any]] = ()) -> None:

@@ -116,7 +116,7 @@ class Picture:
     def told(self, name: str) -> str:
         """Of which groups a router is the RP."""
         state = self.known.get(name)
-        return ", ".join(f"RP of {groups}" for groups, rp in (state.rps if state else ()) if state.router.has(rp))
+        return ", ".join(f"RP of {groups}" for groups in (state.own_ranges() if state else ()))
 
     # ---- the whole
 

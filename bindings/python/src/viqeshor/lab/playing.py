@@ -162,13 +162,19 @@ class Player:
             self.teller.sent.append(step.sent[-1])
         if step.did["do"] == "reload":
             self.teller.go_on(step)
-        self.wake(name, core)
+            self.put(name, here.table)
+        self.wake(name, self.cores[name])
 
     @staticmethod
     def answer(step: story.Step, core: Core, table: dict[str, Any]) -> tuple[str, str | None]:
         """What a router answers; no answer of it follows of a move `restart`, which is done."""
         event = twin.event_of(step)
         return ("done", None) if event is None else words_of(twin.take(core, event, table))
+
+    def put(self, name: str, before: dict[str, Any]) -> None:
+        """A router has another configuration than this one: with a listener or without."""
+        table = self.teller.present.router(name).table
+        self.cores[name] = twin.with_listener(self.cores[name], before, table)
 
     def wake(self, name: str, core: Core) -> None:
         """Keeps when time does something for a router that has changed."""

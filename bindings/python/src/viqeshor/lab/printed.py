@@ -9,7 +9,7 @@ if TYPE_CHECKING:
     R = TypeVar("R")
     Row: TypeAlias = (
         "Neighbour | GroupRecord | SourceRecord | Downstream | AssertState | Upstream | SharedTree | Active | "
-        "OlderHosts"
+        "OlderHosts | ElectedBsr | LearnedRp"
     )
 
 NEVER = math.inf
@@ -119,14 +119,30 @@ class OlderHosts(NamedTuple):
     two_end: float | None
 
 
+class ElectedBsr(NamedTuple):
+    """The elected BSR."""
+    bsr: str
+    priority: int
+    end: float | None
+
+
+class LearnedRp(NamedTuple):
+    """An RP of a learned range."""
+    groups: str
+    rp: str
+    priority: int
+    end: float | None
+    state: str
+
+
 ROWS = {
     "N": Neighbour, "G": GroupRecord, "S": SourceRecord, "D": Downstream, "A": AssertState, "U": Upstream,
-    "R": SharedTree, "F": Active, "O": OlderHosts,
+    "R": SharedTree, "F": Active, "O": OlderHosts, "B": ElectedBsr, "L": LearnedRp,
 }
 # The columns that are moments.
 ENDS = ("end", "pending", "one_end", "two_end")
 # The columns that are numbers.
-NUMBERS = ("iface",)
+NUMBERS = ("iface", "priority")
 PACKETS = ("frame", "copy", "unicast")
 
 

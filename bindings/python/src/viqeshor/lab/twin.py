@@ -6,7 +6,8 @@ from os import PathLike
 from typing import TYPE_CHECKING, Any
 
 import viqeshor
-from viqeshor.lab import faults, fed, printed
+from viqeshor.lab import faults, fed, learner, printed
+from viqeshor.lab.learner import Learner, hears
 from viqeshor.lab.scenario import places_of
 from viqeshor.rows import ends
 
@@ -15,13 +16,17 @@ if TYPE_CHECKING:
     from viqeshor.lab.story import Step
 
 # The calls of the library whose names aren't those of the events, and what reads the texts that these take.
-CALLS = {"routes": ("set_routes", fed.routes), "ranges": ("set_ranges", fed.ranges)}
+CALLS = {
+    "routes": ("set_routes", fed.routes), "ranges": ("set_ranges", fed.ranges),
+    "candidates": ("set_candidates", fed.candidates),
+}
 # How many events are taken at most from a state that was saved to another one.
 APART = 256
 
 
 def new_router(table: dict[str, Any], library: str | PathLike[str] | None = None) -> viqeshor.Router:
-    """A router with the configuration of a scenario's, of the library that is named, else of the package's."""
+    """A router with the configuration of a scenario's, of the library that is named, else of the package's; behind a
+    listener where it hears Bootstraps."""
     router = viqeshor.Router(
         fed.interfaces(table),
         fed.ranges(table.get("rps", [])),
@@ -29,7 +34,16 @@ def new_router(table: dict[str, Any], library: str | PathLike[str] | None = None
         library=library,
         **fed.settings(table)
     )
-    return set_as(router, table)
+    return listening(set_as(router, table), table, library)
+
+
+def listening(
+    router: viqeshor.Router, table: dict[str, Any], library: str | PathLike[str] | None = None
+) -> viqeshor.Router | Learner:
+    """A router that has the ranges of a configuration, behind a new listener where that has one."""
+    if not hears(table):
+        return router
+    return Learner(router, fed.ranges(table.get("rps", [])), table.get("rp_limit", learner.MOST_RPS), library)
 
 
 def restored(state: bytes, table: dict[str, Any]) -> viqeshor.Router:
@@ -76,13 +90,17 @@ def stop_on_the_way(router: viqeshor.Router, moment: int, draw: int) -> None:
         router.advance(ends, draw=draw)
 
 
-def reload(router: viqeshor.Router, event: fed.Event, before: dict[str, Any]) -> viqeshor.Answer:
+def reload(router: viqeshor.Router | Learner, event: fed.Event, before: dict[str, Any]) -> viqeshor.Answer:
     """What a router answers to another configuration. Interfaces that are new, or where another setting is, hear older
-    hosts as it says."""
+    hosts as it says. Where it still hears Bootstraps it keeps its ranges, and then those that are configured are set
+    beside what it learned."""
     config, places = event.values
     if not faults.sets_fit(config):
         return viqeshor.Answer.BAD_RP_SET
-    lists = fed.interfaces(config), fed.ranges(config.get("rps", [])), fed.routes(config.get("routes", []))
+    ranges = list(fed.ranges(config.get("rps", [])))
+    stays = isinstance(router, Learner) and hears(config)
+    given = router.bsr.given() if stays else ranges
+    lists = fed.interfaces(config), given, fed.routes(config.get("routes", []))
     if "anycast" in before:
         router.set_rp_sets([])
     try:
@@ -101,6 +119,9 @@ def reload(router: viqeshor.Router, event: fed.Event, before: dict[str, Any]) ->
             router.set_older_hosts(iface, hosts)
     for iface, _ in enumerate(config["iface"]):
         router.set_query_version(iface, config.get("query_version", 3))
+    if stays:
+        router.limit = config.get("rp_limit", learner.MOST_RPS)
+        return router.set_ranges(ranges, draw=event.draw)
     return viqeshor.Answer.DONE
 
 
@@ -108,14 +129,30 @@ def lines_of(router: viqeshor.Router) -> list[str]:
     """The lines of a router's tables, those of older hosts too."""
     older = (f"O {row.iface} {row.group} v{row.mode} {ends(row.one_end, '-')} {ends(row.two_end, '-')}"
              for row in router.older_rows())
-    return [*router.tables(), *older]
+    learned = map(learner.words_of, learned_rows(router))
+    return [*router.tables(), *older, *learned]
+
+
+def with_listener(
+    router: viqeshor.Router | Learner, before: dict[str, Any], table: dict[str, Any]
+) -> viqeshor.Router | Learner:
+    """A router that got another configuration, behind a listener where that has one."""
+    if hears(before) == hears(table):
+        return router
+    return listening(router.router if isinstance(router, Learner) else router, table)
+
+
+def learned_rows(router: viqeshor.Router | Learner) -> list[printed.Row]:
+    """The rows of what its listener learned, if it has one."""
+    return router.rows_learned() if isinstance(router, Learner) else []
 
 
 def rows_of(router: viqeshor.Router) -> list[printed.Row]:
     """The rows of a router's tables as they are printed, those of older hosts too."""
     rows = [printed_row(row) for letter in viqeshor.TABLES for row in router.rows(letter)]
-    return rows + [printed.OlderHosts(row.iface, row.group, f"v{row.mode}", row.one_end, row.two_end)
-                   for row in router.older_rows()]
+    rows += [printed.OlderHosts(row.iface, row.group, f"v{row.mode}", row.one_end, row.two_end)
+             for row in router.older_rows()]
+    return rows + learned_rows(router)
 
 
 @functools.lru_cache(maxsize=65536)
@@ -125,12 +162,14 @@ def printed_row(row: viqeshor.Row) -> printed.Row:
 
 class Twin:
     """What a router of a scenario took, and a router of the library that takes it too, as much of it as is asked for;
-    `table` is the configuration that this one has. States that are saved stand with theirs."""
+    `table` is the configuration that this one has. States that are saved stand with theirs; none is of a router that
+    hears Bootstraps, since a saved state doesn't have what a listener learned."""
 
     def __init__(self, table: dict[str, Any]) -> None:
         self.first = self.table = table
         self.events, self.saved = [], {}
         self.router, self.taken, self.sent = None, 0, []
+        self.learns = hears(table)
 
     def take_note(self, step: Step) -> None:
         """The same of a step that the router may have refused or ignored."""
@@ -147,6 +186,7 @@ class Twin:
         event = event_of(step)
         if event is not None:
             self.events.append(event)
+            self.learns = self.learns or (event.name == "reload" and hears(event.values[0]))
 
     def after(self, count: int) -> viqeshor.Router:
         """The router of the library after so many events."""
@@ -156,14 +196,15 @@ class Twin:
             for event in self.events[self.taken:at]:
                 self.take(event)
             self.taken = at
-            if at % APART == 0:
+            if at % APART == 0 and not self.learns:
                 self.saved.setdefault(at, (self.router.save(), self.table))
         return self.router
 
     def take(self, event: fed.Event) -> None:
         answer, self.sent = take(self.router, event, self.table), self.router.packets()
         if event.name == "reload" and answer == viqeshor.Answer.DONE:
-            self.table, _ = event.values
+            before, (self.table, _) = self.table, event.values
+            self.router = with_listener(self.router, before, self.table)
 
     def begin(self, count: int) -> None:
         """Begins at the last state that was saved, up to so many events."""
@@ -184,6 +225,15 @@ class Twin:
         """The rows of its tables after so many events."""
         return rows_of(self.after(count))
 
+    def given(self, count: int) -> list[tuple[str, str]] | None:
+        """The ranges that its listener gives it after so many events; none where it has no listener."""
+        router = self.after(count)
+        return router.bsr.given() if isinstance(router, Learner) else None
+
     def copy(self, count: int) -> viqeshor.Router:
         """Another router after so many events, which may take others from then on."""
+        if self.learns:
+            other = Twin(self.first)
+            other.events = self.events[:count]
+            return other.after(count)
         return restored(self.after(count).save(), self.table)

@@ -170,6 +170,9 @@ def place(router: Router | None, iface: int) -> str:
     return f"{iface} {router.interfaces[iface].link}"
 
 
+LISTS = {"routes": "routes", "rps": "RP ranges", "candidates": "candidate RPs"}
+
+
 def move(did: dict[str, Any], router: Router | None, brought: Sent | None = None) -> str:
     """What a move does at its router."""
     match did["do"]:
@@ -181,9 +184,8 @@ def move(did: dict[str, Any], router: Router | None, brought: Sent | None = None
             return f"takes on {place(router, did['iface'])}: {bytes_given(bytes.fromhex(did['hex']))}"
         case "unicast":
             return f"takes as a unicast: {bytes_given(bytes.fromhex(did['hex']), packets.MOST_IN_A_UNICAST)}"
-        case "routes" | "rps":
-            return f"gets new {'routes' if did['do'] == 'routes' else 'RP ranges'}: " + ("; ".join(did["list"])
-                or "none")
+        case "routes" | "rps" | "candidates":
+            return f"gets new {LISTS[did['do']]}: " + ("; ".join(did["list"]) or "none")
         case "deliver":
             return f"takes on {place(router, did['iface'])}: packet {did['frame']}{of(brought)}"
         case "carry":

@@ -1,5 +1,5 @@
 use Rattle.std.{proofs.Common.{List, ap, subst, sym, ◌≡◌, ◌∙◌}}
-use Rattle.pim_types.{specs.declared.config.RpRange.RpRange}
+use Rattle.pim_types.{specs.declared.config.RpTable.RpTable}
 use Rattle.pim_state.{specs.declared.touched.Touched.Touched}
 use Rattle.pim_model.{specs.{declared.accepted.Accepted.Accepted, Step.rps_replaced}}
 use Rattle.pim_mrib.{specs.Routes.RouteTable}
@@ -23,5 +23,5 @@ returns-clause-plan c =
     rps_fit s c.args.ranges.now c.in_ok-touched.touched c.args.table
     (c.in_ok-touched.ensures
     ∙ ap (λ (t : RouteTable). Touched.Keys (keys_by_rps s (rps_replaced s t.ranges))) c.deref.ensures
-    ∙ ap (λ (rs : List RpRange). Touched.Keys (keys_by_rps s (rps_replaced s rs))) c.requires)
+    ∙ ap (λ (rs : RpTable). Touched.Keys (keys_by_rps s (rps_replaced s rs))) c.requires)
     c.requires

@@ -21,7 +21,6 @@ pub plan_rps-requires : goal.plan_rps-requires
 plan_rps-requires c =
     holds _ c.args.table _ _ (subst (λ (a : Accepted). Brings a c.args.table) c.in-Rps.is c.requires.table)
     c.unwrap-in-Rps.ensures
-    ∙ sym c.as_slice-in-Rps.ensures
 
 pub unwrap-requires : goal.unwrap-requires
 unwrap-requires c = is_there _ c.args.table _ (subst (λ (a : Accepted). Brings a c.args.table) c.in-Routes.is c.requires.table)

@@ -5,4 +5,4 @@ pub returns-clause-accepted : goal.returns-clause-accepted
 unfolding configured
 returns-clause-accepted c =
     rw (← c.self.view_is)
-    (accepted_beside c.self.inside.configured.items c.args.ranges.now c.self.inside.limit c.args.limit c.self.inside.table c.self.invariant)
+    (accepted_beside c.self.inside.choice c.self.inside.configured.items c.args.ranges.now c.self.inside.limit c.args.limit c.self.inside.table c.self.invariant)

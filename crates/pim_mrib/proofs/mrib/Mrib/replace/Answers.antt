@@ -11,4 +11,5 @@ invariant_of-self-2 c = (
       c.self.invariant.0,
   replaced_are_hops c.in_ok-replace.field-0 c.args.routes.now c.self.inside.routes c.replace.new.self
       c.in_ok-hops.hops.keys c.in_ok-replace.ensures.new c.if-not-branch.false c.in_ok-hops.ensures,
+  c.self.invariant.2,
 )

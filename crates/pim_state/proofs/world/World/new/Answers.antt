@@ -82,6 +82,7 @@ returns-clause-accepted c =
                 (sym c.is_err.ensures.value ∙ c.if-is_err.false)),
             c.as_slice.ensures,
             c.as_slice-2.ensures,
+            c.new-mrib.ensures,
           ) refl),
     )
 

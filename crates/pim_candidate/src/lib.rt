@@ -1,0 +1,13 @@
+//! Candidate BSRs and candidate RPs (RFC 5059), beside a router that hears Bootstraps.
+#![tactic(auto)]
+
+pub mod advertising;
+pub mod election;
+pub mod laws;
+pub mod rp_set;
+#[cfg(test)]
+mod tests;
+
+pub use advertising::{ADVERTISED_HOLDTIME, Advertising};
+pub use election::{Action, Bsr, Election, Outcome, Role};
+pub use rp_set::{Gone, Held, RpSet};
