@@ -394,10 +394,11 @@ class Told(unittest.TestCase):
         self.assertTrue(lines[1].startswith("b: set aside: b.toml isn't TOML"), lines)
 
 
-# Small scenarios with each kind of move, with older hosts, RPs that are learned or chosen of candidates, and a guard:
-# few, since what the kernel computes of each is read in half a minute and more.
-SAMPLE = ("bsr_a_learned_rp", "frames_once_more", "a_guarded_register", "a_reload_with_older_hosts",
-          "candidates_of_one_range", "refused_and_ignored", "routes_that_are_refused")
+# Small scenarios with each kind of move, with older hosts and older queriers, RPs that share an address, are learned or
+# are chosen of candidates, a guard, reloads and a restart.
+SAMPLE = ("anycast_on_its_link", "bsr_a_learned_rp", "one_join", "a_restart", "two_routers", "frames_once_more",
+          "a_host_of_version_one", "an_older_querier", "a_guarded_register", "a_reload_of_an_address",
+          "a_reload_with_older_hosts", "candidates_of_one_range", "refused_and_ignored", "routes_that_are_refused")
 
 
 class Sample(unittest.TestCase):

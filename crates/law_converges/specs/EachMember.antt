@@ -1,6 +1,6 @@
 -- Each link with a member whose router's routes lead to the RP: neither a way is given nor who wants the group, nor any state but that
--- there is room and no packet takes the source's own tree; and each packet that is brought to the RP comes to the link exactly once
--- (RFC 7761, 4.1.5, 4.2 and 4.5.4).
+-- there is room, no packet takes the source's own tree, the source is no router's own address, and no host excludes it; and each packet
+-- that is brought to the RP comes to the link exactly once (RFC 7761, 4.1.5, 4.2 and 4.5.4).
 use Rattle.std.{specs.{List.AllByRecursion, Prelude.{List, Some, [], false, map, not, suc, ℕ, ◌&&◌, ◌*◌, ◌+◌, ◌==◌, ◌∷◌, ◌≡◌, ◌≤◌}}}
 use Rattle.pim_types.{specs.Keys.source_key}
 use Rattle.pim_model.{specs.{Full.source_is_full, Network.{Move, Network, Station, station_at}, Receivers.local_receiver_exclude, Sets.spt_bit, State.is_own, Unicast.is_rpf_interface}}
