@@ -1,7 +1,7 @@
 # Completion of viqeshord for bash.
 _viqeshord() {
     local word=${COMP_WORDS[COMP_CWORD]} before=${COMP_WORDS[COMP_CWORD - 1]} sub=${COMP_WORDS[1]}
-    local topics="mroute why neighbors igmp rp bsr interfaces joins upstream asserts rpf counters"
+    local topics="mroute why neighbors igmp rp bsr msdp interfaces joins upstream asserts rpf counters"
     COMPREPLY=()
     if ((COMP_CWORD == 1)); then
         COMPREPLY=($(compgen -W "run show import clear help --help --version" -- "$word"))

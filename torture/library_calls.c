@@ -920,6 +920,55 @@ static void shared_addresses(void) {
     viq_end(router);
 }
 
+/* ---- sources of other RPs (MSDP) */
+
+enum { PEER = 0x0a090902, NEAR = 0x0a00004d };
+
+static void sources_without_a_router(void) {
+    const struct viq_source_active told = {PEER, ITS_OWN, 0x0a000305, OURS, NULL, 0};
+    struct viq_source_group name = {1, 2};
+    uint8_t room[48];
+    size_t size = 7;
+    is("an SA without a router", viq_source_active(NULL, &told, viq_draw(0)), VIQ_NO_ROUTER);
+    is("its packet", viq_source_active_packet(NULL, &told, room, sizeof room, &size), VIQ_NO_ROUTER);
+    is("which has no size", size, 7);
+    is("what registers", viq_registered(NULL, NULL, 0, &name) || name.source != 1 || name.group != 2, false);
+    is("an own source", viq_own_source(NULL, NEAR, OURS), false);
+}
+
+static void sources_of_other_rps(void) {
+    static const struct viq_range ranges[] = {{0xe0000000, 4, ITS_OWN}};
+    struct viq_source_active told = {PEER, ITS_OWN, 0x0a000305, OURS, NULL, 0};
+    struct viq_source_group name = {1, 2};
+    struct viq_router *router = NULL;
+    uint8_t room[48] = {0}, data[28] = {0x45, 0, 0, 28, 0, 0, 0, 0, 16, UDP, 0, 0, 10, 0, 0, 77, OURS >> 24, OURS >> 16 & 255, OURS >> 8 & 255, OURS & 255};
+    size_t size = 7;
+    sources_without_a_router();
+    is("new as an RP", viq_new(&router, VIQ_ABI, &usual, three, COUNT(three), two, COUNT(two), ranges, 1), VIQ_DONE);
+    is("up", viq_up(router, 0, viq_draw(0)), VIQ_DONE);
+    viq_clear(router);
+    is("an SA", viq_source_active(router, &told, viq_draw(0)), VIQ_DONE);
+    is("while packets are untaken", viq_source_active(router, &told, viq_draw(0)), VIQ_UNTAKEN);
+    is("a Register-Stop to the peer", goes_to(router, PEER, 0), true);
+    is("no source of its own", viq_own_source(router, told.source, told.group), false);
+    is("its packet, as much as fits", viq_source_active_packet(router, &told, room, 4, &size), VIQ_DONE);
+    is("how long it is", size == 48 && room[0] == 0x45 && room[3] == 48 && room[4] == 0 && room[8] == 0, true);
+    is("its packet", viq_source_active_packet(router, &told, room, sizeof room, &size) == VIQ_DONE && room[8] == 1, true);
+    is("it registers nothing", viq_registered(router, room, sizeof room, &name), false);
+    room[8] = 60, room[10] = room[11] = 0;
+    set_sum(room, 20, 10);
+    is("one of a DR does", viq_registered(router, room, sizeof room, &name), true);
+    is("which source", name.source == told.source && name.group == told.group, true);
+    is("a packet of another source is left out", viq_source_active_packet(router, &(struct viq_source_active){PEER, ITS_OWN, NEAR + 0x300, OURS, data, sizeof data}, room, sizeof room, &size) == VIQ_DONE && size == 48, true);
+    told.source = NEAR;
+    is("an SA of a source on its link", viq_source_active(router, &told, viq_draw(0)), VIQ_NOT_FOR_ME);
+    is("its packet has no bytes", viq_source_active_packet(router, &told, room, sizeof room, &size) == VIQ_DONE && size == 0, true);
+    set_sum(data, 20, 10);
+    is("a packet of it", viq_frame(router, 0, data, sizeof data, viq_draw(0)), VIQ_DONE);
+    is("an own source", viq_own_source(router, NEAR, OURS), true);
+    viq_end(router);
+}
+
 /* ---- RPs that are learned of Bootstraps: the messages, and what follows of them, are those of the worked runs of
  * crates/pim_bsr/specs/Runs.antt */
 
@@ -1142,6 +1191,304 @@ static void bootstraps(void) {
     ends_of_learned(bsr, router);
     viq_bsr_end(bsr);
     viq_end(router);
+}
+
+/* ---- candidate BSRs and candidate RPs: two routers of a link, which both stand as both */
+
+enum { LEFT_ROUTER = 0x0a000001, RIGHT_ROUTER = 0x0a000002, NEVER_TOLD = 0 };
+
+static const struct viq_prefix of_left[] = {{WIDE, 8}}, of_right[] = {{0xef020000, 16}, {0xef030000, 16}};
+static const struct viq_candidacy_settings stands_left = {true, LEFT_ROUTER, 10, 30, 255, true, LEFT_ROUTER, 192};
+static const struct viq_candidacy_settings stands_right = {true, RIGHT_ROUTER, 20, 30, 2, true, RIGHT_ROUTER, 192};
+
+struct station {
+    struct viq_router *router;
+    struct viq_bsr *bsr;
+    struct viq_candidacy *candidacy;
+};
+struct waiting {
+    int to;
+    struct viq_packet packet;
+    uint8_t bytes[VIQ_MOST_BYTES];
+};
+static struct station stations[2];
+static struct waiting waiting[64];
+static size_t posted, delivered;
+static uint32_t last_told, last_heard;
+
+/* What a router sends waits for the other one. */
+static void post(int from) {
+    for (;; posted++) {
+        struct waiting *next = &waiting[posted % COUNT(waiting)];
+        if (!viq_take(stations[from].router, &next->packet, next->bytes, sizeof next->bytes)) return;
+        next->to = 1 - from;
+    }
+}
+
+static void give_if(bool moved, int at) {
+    if (moved) is("the RPs are given", viq_bsr_give(stations[at].bsr, stations[at].router, viq_draw(7)), VIQ_DONE);
+    post(at);
+}
+
+/* A packet comes, as the page of the header says. */
+static void deliver(const struct waiting *it) {
+    struct station *to = &stations[it->to];
+    bool moved = false;
+    if (it->packet.kind == VIQ_UNICAST) {
+        is("an advertisement isn't the router's", viq_unicast(to->router, it->bytes, it->packet.length, viq_draw(7)), VIQ_NOT_FOR_ME);
+        last_told = viq_candidacy_unicast(to->candidacy, to->router, it->bytes, it->packet.length);
+    } else if (viq_frame(to->router, 0, it->bytes, it->packet.length, viq_draw(7)) == VIQ_OTHER_TYPE) {
+        last_heard = viq_candidacy_hear(to->candidacy, to->bsr, to->router, 0, it->bytes, it->packet.length, viq_draw(7), &moved);
+    }
+    post(it->to);
+    give_if(moved, it->to);
+}
+
+static void deliver_all(void) {
+    while (delivered < posted) {
+        struct waiting it = waiting[delivered++ % COUNT(waiting)];
+        if (stations[it.to].router) deliver(&it);
+    }
+}
+
+static uint64_t sooner(uint64_t one, uint64_t other) { return one < other ? one : other; }
+
+static uint64_t end_of(int at) {
+    struct station *it = &stations[at];
+    return it->router ? sooner(viq_next_moment(it->router), sooner(viq_bsr_next(it->bsr), viq_candidacy_next(it->candidacy))) : VIQ_NEVER;
+}
+
+static void pass_one(int at, uint64_t moment) {
+    struct station *it = &stations[at];
+    bool moved = false;
+    if (!it->router) return;
+    is("the router goes on", viq_advance(it->router, moment, viq_draw(7)), VIQ_DONE);
+    post(at);
+    is("time passes", viq_candidacy_pass(it->candidacy, it->bsr, it->router, moment, viq_draw(7), &moved), VIQ_DONE);
+    post(at);
+    give_if(moved, at);
+    deliver_all();
+}
+
+/* Time goes to a moment, from end to end. */
+static void go_to(uint64_t moment) {
+    for (uint64_t end; (end = sooner(end_of(0), end_of(1))) <= moment;) pass_one(end_of(0) == end ? 0 : 1, end);
+    pass_one(0, moment);
+    pass_one(1, moment);
+}
+
+static struct viq_candidacy_state state_of(int at) {
+    struct viq_candidacy_state state = {7, 7, 7, 7};
+    is("how it stands", viq_candidacy_state(stations[at].candidacy, &state), true);
+    return state;
+}
+
+static void without_a_candidacy(struct viq_bsr *bsr, struct viq_router *router) {
+    struct viq_candidacy_state state = {.role = 7};
+    struct viq_candidacy_rp row = {.rp = 7};
+    uint8_t none[1] = {0};
+    bool moved = true;
+    is("hear without a candidacy", viq_candidacy_hear(NULL, bsr, router, 0, none, 1, viq_draw(7), &moved), VIQ_NO_CANDIDACY);
+    is("nothing moved of it", moved, false);
+    is("a unicast without one", viq_candidacy_unicast(NULL, router, none, 1), VIQ_NO_CANDIDACY);
+    is("next without one", viq_candidacy_next(NULL), VIQ_NEVER);
+    moved = true;
+    is("pass without one", viq_candidacy_pass(NULL, bsr, router, 1, viq_draw(7), &moved), VIQ_NO_CANDIDACY);
+    is("nothing moved of that", moved, false);
+    is("leave without one", viq_candidacy_leave(NULL, bsr, router), VIQ_NO_CANDIDACY);
+    is("state without one", viq_candidacy_state(NULL, &state), false);
+    is("RPs without one", viq_candidacy_rps(NULL), 0);
+    is("an RP without one", viq_candidacy_rp(NULL, 0, &row), false);
+    is("what isn't written of them", state.role == 7 && row.rp == 7, true);
+    viq_candidacy_end(NULL);
+}
+
+static uint32_t candidacy_of(const struct viq_candidacy_settings *settings, const struct viq_prefix *ranges, size_t count) {
+    struct viq_candidacy *candidacy = (struct viq_candidacy *)&wrong;
+    uint32_t answer = viq_candidacy_new(&candidacy, VIQ_ABI, settings, ranges, count, 0);
+    is("a candidacy where there is one", candidacy != NULL, answer == VIQ_DONE);
+    viq_candidacy_end(candidacy);
+    return answer;
+}
+
+/* Each value past each of its ends. */
+static void refused_candidacies(void) {
+    struct viq_candidacy *candidacy = (struct viq_candidacy *)&wrong;
+    struct viq_prefix many[VIQ_MOST_ADVERTISED + 1];
+    struct { struct viq_candidacy_settings settings; uint32_t answer; } tries[] = {
+        {{true, 0, 0, 0, 1, true, 1, 0}, 54}, {{true, 0xe0000000, 0, 0, 1, true, 1, 0}, 54}, {{true, 1, 256, 0, 1, true, 1, 0}, 54},
+        {{true, 1, 0, 33, 1, true, 1, 0}, 54}, {{true, 1, 0, 0, 0, true, 1, 0}, 54}, {{true, 1, 0, 0, 256, true, 1, 0}, 54},
+        {{true, 1, 0, 0, 1, true, 0, 0}, 54}, {{true, 1, 0, 0, 1, true, 0xe0000000, 0}, 54}, {{true, 1, 0, 0, 1, true, 1, 256}, 54},
+        {{true, 1, 0, 0, 1, true, 1, 0}, 0}, {{true, 0xdfffffff, 255, 32, 255, true, 0xdfffffff, 255}, 0},
+        {{false, 0, 256, 33, 0, true, 1, 0}, 0}, {{true, 1, 0, 0, 1, false, 0, 256}, 0}, {{false, 0, 256, 33, 256, false, 0, 256}, 0},
+    };
+    struct { struct viq_prefix range; uint32_t answer; } ranges[] = {
+        {{0xe0000000, 4}, 0}, {{0xef010101, 32}, 0}, {{0xef000000, 3}, 54}, {{0xef010101, 33}, 54}, {{0xef010101, 24}, 54}, {{0x0a000000, 8}, 54}, {{0xf0000000, 4}, 54},
+    };
+    for (size_t at = 0; at < COUNT(tries); at++) is("a candidacy", candidacy_of(&tries[at].settings, of_left, 1), tries[at].answer);
+    for (size_t at = 0; at < COUNT(ranges); at++) is("a range of an RP", candidacy_of(&stands_left, &ranges[at].range, 1), ranges[at].answer);
+    for (uint32_t at = 0; at < COUNT(many); at++) many[at] = (struct viq_prefix){0xef000000 + (at << 8), 24};
+    is("no range of an RP", candidacy_of(&stands_left, NULL, 0), VIQ_NO_SETTING);
+    is("as many as there may be", candidacy_of(&stands_left, many, VIQ_MOST_ADVERTISED), VIQ_DONE);
+    is("one more", candidacy_of(&stands_left, many, VIQ_MOST_ADVERTISED + 1), VIQ_NO_SETTING);
+    is("far too many, which aren't read", candidacy_of(&stands_left, NULL, SIZE_MAX), VIQ_NO_SETTING);
+    is("what isn't read of no RP", candidacy_of(&(struct viq_candidacy_settings){.is_rp = false}, NULL, SIZE_MAX), VIQ_DONE);
+    is("another ABI", viq_candidacy_new(&candidacy, VIQ_ABI + 1, &stands_left, of_left, 1, 0), VIQ_OTHER_ABI);
+    is("no candidacy of it", candidacy == NULL, true);
+    is("a moment too late", viq_candidacy_new(&candidacy, VIQ_ABI, &stands_left, of_left, 1, (1ull << 62) + 1), VIQ_MOMENT_FAR);
+    is("the last moment", viq_candidacy_new(&candidacy, VIQ_ABI, &stands_left, of_left, 1, 1ull << 62), VIQ_DONE);
+    viq_candidacy_end(candidacy);
+}
+
+/* An advertisement of the left router as RP of 239.0.0.0/8, to the right one; `count` bytes of its message. */
+static size_t put_advertisement(uint8_t *bytes, size_t count) {
+    const uint8_t head[] = {0x45, 0xc0, 0, (uint8_t)(20 + count), 0, 0, 0, 0, 64, PIM, 0, 0, 10, 0, 0, 1, 10, 0, 0, 2};
+    const uint8_t message[] = {0x28, 0, 0, 0, 1, 192, 0, 150, 1, 0, 10, 0, 0, 1, 1, 0, 0, 8, 239, 0, 0, 0};
+    memcpy(bytes, head, sizeof head);
+    memcpy(bytes + sizeof head, message, sizeof message);
+    set_sum(bytes, 20, 10);
+    set_sum(bytes + 20, sizeof message, 2);
+    return sizeof head + count;
+}
+
+enum { OF_ADVERTISEMENT = 22 };
+
+/* Until one of the two is elected nobody takes an advertisement, nor hears one that is cut. */
+static void before_an_election(void) {
+    struct viq_candidacy *right = stations[1].candidacy;
+    uint8_t bytes[64];
+    size_t length = put_advertisement(bytes, OF_ADVERTISEMENT);
+    struct viq_candidacy_state state = state_of(1);
+    is("pending", state.role == VIQ_BSR_PENDING && state.end == 5000 && state.told == NEVER_TOLD && state.told_end == VIQ_NEVER, true);
+    is("its first end", viq_candidacy_next(right), 5000);
+    is("no BSR yet", viq_candidacy_unicast(right, stations[1].router, bytes, length), VIQ_NOT_ELECTED);
+    is("a unicast without a router", viq_candidacy_unicast(right, NULL, bytes, length), VIQ_NO_ROUTER);
+    is("one to another address", viq_candidacy_unicast(stations[0].candidacy, stations[0].router, bytes, length), VIQ_OTHER_TYPE);
+    for (size_t at = 0; at < length; at++) is("a cut packet", viq_candidacy_unicast(right, stations[1].router, bytes, at), VIQ_OTHER_TYPE);
+}
+
+/* Who has more weight is elected, and says the RPs of both. */
+static void an_election(void) {
+    struct viq_candidacy_state left, right;
+    struct viq_bsr_elected elected = {7, 7, 7};
+    struct viq_candidacy_rp row = {.rp = 7};
+    go_to(4999);
+    is("none yet", state_of(0).role == VIQ_BSR_PENDING && state_of(1).role == VIQ_BSR_PENDING, true);
+    go_to(16000);
+    left = state_of(0), right = state_of(1);
+    is("who yields", left.role == VIQ_BSR_CANDIDATE && left.told == RIGHT_ROUTER, true);
+    is("who is elected", right.role == VIQ_BSR_ELECTED && right.told == RIGHT_ROUTER, true);
+    is("the left one knows it", viq_bsr_elected(stations[0].bsr, &elected) && elected.bsr == RIGHT_ROUTER && elected.priority == 20, true);
+    is("the right one too", viq_bsr_elected(stations[1].bsr, &elected) && elected.bsr == RIGHT_ROUTER, true);
+    is("what was told", last_told, VIQ_DONE);
+    is("as many RPs as it holds", viq_candidacy_rps(stations[1].candidacy), 2);
+    is("no more of them", viq_candidacy_rp(stations[1].candidacy, 2, &row) || row.rp != 7, false);
+    is("the first", viq_candidacy_rp(stations[1].candidacy, 0, &row) && row.priority == 192 && row.holdtime == 150, true);
+    is("the left one holds none", viq_candidacy_rps(stations[0].candidacy), 0);
+    is("both learn the same", viq_bsr_rps(stations[0].bsr) == 2 && viq_bsr_rps(stations[1].bsr) == 2, true);
+}
+
+/* Packets to the elected BSR: what is taken, what is refused, what is cut. */
+static void advertisements(void) {
+    struct station *right = &stations[1];
+    uint8_t bytes[64];
+    size_t length = put_advertisement(bytes, OF_ADVERTISEMENT), held = viq_candidacy_rps(right->candidacy);
+    for (size_t count = 0; count < OF_ADVERTISEMENT; count++) {
+        size_t cut = put_advertisement(bytes, count);
+        is("a cut message", viq_candidacy_unicast(right->candidacy, right->router, bytes, cut), count < 4 ? VIQ_OTHER_TYPE : VIQ_SHORT);
+    }
+    put_advertisement(bytes, OF_ADVERTISEMENT);
+    bytes[20 + 18] = 10;
+    is("no range of groups", viq_candidacy_unicast(right->candidacy, right->router, bytes, length), VIQ_NOT_MULTICAST);
+    bytes[20] = 0x24;
+    is("no advertisement", viq_candidacy_unicast(right->candidacy, right->router, bytes, length), VIQ_OTHER_TYPE);
+    is("as many RPs as before", viq_candidacy_rps(right->candidacy), held);
+    put_advertisement(bytes, OF_ADVERTISEMENT);
+    bytes[20 + 7] = 0;
+    is("one that goes", viq_candidacy_unicast(right->candidacy, right->router, bytes, length), VIQ_DONE);
+    is("it doesn't hold it", viq_candidacy_rps(right->candidacy) < held, true);
+    put_advertisement(bytes, OF_ADVERTISEMENT);
+    is("it comes again", viq_candidacy_unicast(right->candidacy, right->router, bytes, length), VIQ_DONE);
+    is("it holds it", viq_candidacy_rps(right->candidacy), held);
+}
+
+/* Bootstraps at the one that yielded, while packets are untaken and without the others; a message cut at each byte. */
+static void bootstraps_at_a_candidate(void) {
+    struct station *left = &stations[0];
+    struct viq_candidacy_state before = state_of(0), after;
+    uint8_t bytes[128];
+    static const uint32_t rps[] = {FIRST};
+    size_t length = put_bootstrap(bytes, rps, 1);
+    bool moved = true;
+    is("hear without a listener", viq_candidacy_hear(left->candidacy, NULL, left->router, 0, bytes, length, viq_draw(7), &moved), VIQ_NO_LISTENER);
+    is("nothing moved of it", moved, false);
+    is("hear without a router", viq_candidacy_hear(left->candidacy, left->bsr, NULL, 0, bytes, length, viq_draw(7), &moved), VIQ_NO_ROUTER);
+    is("of no neighbour", viq_candidacy_hear(left->candidacy, left->bsr, left->router, 0, bytes, length, viq_draw(7), &moved), VIQ_NO_NEIGHBOUR);
+    for (size_t at = 0; at < length; at++)
+        is("a cut packet", viq_candidacy_hear(left->candidacy, left->bsr, left->router, 0, bytes, at, viq_draw(7), &moved), VIQ_OTHER_TYPE);
+    is("pass without a listener", viq_candidacy_pass(left->candidacy, NULL, left->router, 16000, viq_draw(7), &moved), VIQ_NO_LISTENER);
+    is("pass without a router", viq_candidacy_pass(left->candidacy, left->bsr, NULL, 16000, viq_draw(7), &moved), VIQ_NO_ROUTER);
+    is("pass to a moment too late", viq_candidacy_pass(NULL, NULL, NULL, (1ull << 62) + 1, viq_draw(7), &moved), VIQ_MOMENT_FAR);
+    is("leave without a listener", viq_candidacy_leave(left->candidacy, NULL, left->router), VIQ_NO_LISTENER);
+    is("leave without a router", viq_candidacy_leave(left->candidacy, left->bsr, NULL), VIQ_NO_ROUTER);
+    after = state_of(0);
+    is("nothing changed", memcmp(&before, &after, sizeof before), 0);
+}
+
+/* The left RP goes: the BSR is told, and says it. */
+static void one_leaves(void) {
+    struct station *left = &stations[0];
+    struct viq_packet packet = {7, 7, 7, 7};
+    uint8_t bytes[128];
+    static const uint32_t rps[] = {FIRST};
+    size_t length = put_bootstrap(bytes, rps, 1), held = viq_candidacy_rps(stations[1].candidacy);
+    bool moved = true;
+    is("the left one leaves", viq_candidacy_leave(left->candidacy, left->bsr, left->router), VIQ_DONE);
+    is("a packet of it", viq_packets(left->router), 1);
+    is("hear while packets are untaken", viq_candidacy_hear(left->candidacy, left->bsr, left->router, 0, bytes, length, viq_draw(7), &moved), VIQ_UNTAKEN);
+    is("nothing moved of it", moved, false);
+    is("pass while they are", viq_candidacy_pass(left->candidacy, left->bsr, left->router, 16000, viq_draw(7), &moved), VIQ_UNTAKEN);
+    is("leave while they are", viq_candidacy_leave(left->candidacy, left->bsr, left->router), VIQ_UNTAKEN);
+    struct waiting *next = &waiting[posted % COUNT(waiting)];
+    is("to the BSR", viq_take(left->router, &next->packet, next->bytes, sizeof next->bytes) && next->packet.kind == VIQ_UNICAST && next->packet.destination == RIGHT_ROUTER, true);
+    packet = next->packet;
+    is("with no holdtime", packet.length == 42 && next->bytes[26] == 0 && next->bytes[27] == 0, true);
+    next->to = 1, posted++;
+    deliver_all();
+    is("it was taken", last_told == VIQ_DONE && viq_candidacy_rps(stations[1].candidacy) < held, true);
+    is("the BSR leaves", viq_candidacy_leave(stations[1].candidacy, stations[1].bsr, stations[1].router), VIQ_DONE);
+    is("it tells nobody", viq_packets(stations[1].router), 0);
+}
+
+static void end_station(int at) {
+    viq_candidacy_end(stations[at].candidacy);
+    viq_bsr_end(stations[at].bsr);
+    viq_end(stations[at].router);
+    stations[at] = (struct station){NULL, NULL, NULL};
+}
+
+static void candidacies(void) {
+    static const struct viq_interface interfaces[] = {{LEFT_ROUTER, 24, 1, 500, 2500}, {RIGHT_ROUTER, 24, 1, 500, 2500}};
+    refused_candidacies();
+    for (int at = 0; at < 2; at++) {
+        struct station *it = &stations[at];
+        is("new that stands", viq_new(&it->router, VIQ_ABI, &usual, &interfaces[at], 1, NULL, 0, NULL, 0), VIQ_DONE);
+        is("its listener", viq_bsr_new(&it->bsr, VIQ_ABI, 256, NULL, 0, 60000), VIQ_DONE);
+        is("its candidacy", viq_candidacy_new(&it->candidacy, VIQ_ABI, at ? &stands_right : &stands_left, at ? of_right : of_left, at ? 2 : 1, 0), VIQ_DONE);
+        is("up that stands", viq_up(it->router, 0, viq_draw(7)), VIQ_DONE);
+        post(at);
+    }
+    without_a_candidacy(stations[0].bsr, stations[0].router);
+    before_an_election();
+    an_election();
+    advertisements();
+    bootstraps_at_a_candidate();
+    one_leaves();
+    end_station(1);
+    go_to(300000);
+    is("the other is the BSR then", state_of(0).role, VIQ_BSR_ELECTED);
+    is("and its own RP", viq_candidacy_rps(stations[0].candidacy) == 1 && rp_of(stations[0].router, 0xef090909) == LEFT_ROUTER, true);
+    end_station(0);
 }
 
 /* ---- hosts and routers of older versions */
@@ -1889,7 +2236,7 @@ static void texts(void) {
     is("untaken", viq_is_refused(VIQ_UNTAKEN) || viq_is_ignored(VIQ_UNTAKEN) || viq_is_lost(VIQ_UNTAKEN), false);
     is("lost", viq_is_lost(VIQ_LOST) && viq_is_lost(VIQ_FAILED) && !viq_is_lost(VIQ_MEMORY), true);
     is("refused past the first numbers", viq_is_refused(VIQ_OWN_ADDRESSES) && viq_is_refused(VIQ_PLACES_DONT_FIT) && viq_is_refused(VIQ_BAD_CANDIDATES) && viq_is_refused(VIQ_BAD_RP_SET) && !viq_is_refused(VIQ_NOT_NEAR), true);
-    is("the last reason", strcmp(viq_answer_text(VIQ_NOT_PREFERRED), viq_answer_text(VIQ_NOT_PREFERRED + 1)) != 0, true);
+    is("the last reason", strcmp(viq_answer_text(VIQ_NOT_ELECTED), viq_answer_text(VIQ_NOT_ELECTED + 1)) != 0, true);
 }
 
 int main(void) {
@@ -1912,7 +2259,9 @@ int main(void) {
     candidates();
     guarded();
     shared_addresses();
+    sources_of_other_rps();
     bootstraps();
+    candidacies();
     older_versions();
     many_frames();
     reloads();

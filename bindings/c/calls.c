@@ -6,6 +6,7 @@
 
 #define CORE(router) (&(struct viq_core){(void *)(router), (router) != NULL})
 #define LISTENER(bsr) (&(struct viq_core_bsr){(void *)(bsr), (bsr) != NULL})
+#define CANDIDACY(candidacy) (&(struct viq_core_candidacy){(void *)(candidacy), (candidacy) != NULL})
 
 /* 0.0.0.0 is no host's address, and no prefix is longer than 32 bits. */
 static const uint32_t no_address = 0;
@@ -13,6 +14,7 @@ static const struct viq_route no_route = {0, 33, 0, 0, 0, 0};
 static const struct viq_range no_range = {0, 33, 0};
 static const struct viq_candidate no_candidate = {0, 33, 0, 0, 0};
 static const struct viq_rp_set no_rp_set = {0, 0, NULL, 0};
+static const struct viq_prefix no_prefix = {0, 33};
 
 struct route_list {
     const struct viq_route *at;
@@ -223,6 +225,28 @@ uint32_t viq_anycast(struct viq_router *router, const struct viq_rp_set *sets, s
     return viq_core_anycast(CORE(router), given.at, given.count);
 }
 
+uint32_t viq_source_active(struct viq_router *router, const struct viq_source_active *told, struct viq_draw draw) {
+    uint8_t packet[VIQ_MOST_BYTES];
+    size_t size = 0;
+    uint32_t answer = viq_source_active_packet(router, told, packet, sizeof packet, &size);
+    if (answer != VIQ_DONE) return answer;
+    return size == 0 ? VIQ_NOT_FOR_ME : viq_unicast(router, packet, size, draw);
+}
+
+uint32_t viq_source_active_packet(const struct viq_router *router, const struct viq_source_active *told, uint8_t *room,
+                                  size_t room_length, size_t *size) {
+    return viq_core_source_active(CORE(router), told, room, room_length, size);
+}
+
+bool viq_registered(const struct viq_router *router, const uint8_t *packet, size_t length,
+                    struct viq_source_group *name) {
+    return viq_core_registered(CORE(router), packet, length, name);
+}
+
+bool viq_own_source(const struct viq_router *router, uint32_t source, uint32_t group) {
+    return viq_core_own_source(CORE(router), source, group);
+}
+
 uint32_t viq_older_read(struct viq_router *router) { return viq_core_older_read(CORE(router)); }
 
 size_t viq_older_rows(const struct viq_router *router) { return viq_core_older_rows(CORE(router)); }
@@ -399,4 +423,55 @@ size_t viq_bsr_parts(const struct viq_bsr *bsr) { return viq_core_bsr_parts(LIST
 
 bool viq_bsr_part(const struct viq_bsr *bsr, size_t index, struct viq_bsr_part *row) {
     return viq_core_bsr_part(LISTENER(bsr), index, row);
+}
+
+uint32_t viq_candidacy_new(struct viq_candidacy **candidacy, uint32_t abi, const struct viq_candidacy_settings *settings,
+                           const struct viq_prefix *ranges, size_t count, uint64_t moment) {
+    struct viq_core_candidacy core = {NULL, false};
+    bool is_read = count <= VIQ_MOST_ADVERTISED;
+    *candidacy = NULL;
+    if (abi != VIQ_ABI) return VIQ_OTHER_ABI;
+    uint32_t answer =
+        viq_core_candidacy_new(&core, settings, is_read ? ranges : &no_prefix, is_read ? count : 1, moment);
+    if (core.is_there) *candidacy = (struct viq_candidacy *)core.place;
+    return answer;
+}
+
+void viq_candidacy_end(struct viq_candidacy *candidacy) { viq_core_candidacy_end(CANDIDACY(candidacy)); }
+
+uint32_t viq_candidacy_hear(struct viq_candidacy *candidacy, struct viq_bsr *bsr, struct viq_router *router,
+                            uint32_t iface, const uint8_t *packet, size_t length, struct viq_draw draw, bool *moved) {
+    return viq_core_candidacy_hear(CANDIDACY(candidacy), LISTENER(bsr), CORE(router), iface, packet, length, draw.bits,
+                                   moved);
+}
+
+uint32_t viq_candidacy_unicast(struct viq_candidacy *candidacy, struct viq_router *router, const uint8_t *packet,
+                               size_t length) {
+    return viq_core_candidacy_unicast(CANDIDACY(candidacy), CORE(router), packet, length);
+}
+
+uint64_t viq_candidacy_next(const struct viq_candidacy *candidacy) {
+    return viq_core_candidacy_next(CANDIDACY(candidacy));
+}
+
+uint32_t viq_candidacy_pass(struct viq_candidacy *candidacy, struct viq_bsr *bsr, struct viq_router *router,
+                            uint64_t moment, struct viq_draw draw, bool *moved) {
+    return viq_core_candidacy_pass(CANDIDACY(candidacy), LISTENER(bsr), CORE(router), moment, draw.bits, moved);
+}
+
+uint32_t viq_candidacy_leave(const struct viq_candidacy *candidacy, const struct viq_bsr *bsr,
+                             struct viq_router *router) {
+    return viq_core_candidacy_leave(CANDIDACY(candidacy), LISTENER(bsr), CORE(router));
+}
+
+bool viq_candidacy_state(const struct viq_candidacy *candidacy, struct viq_candidacy_state *state) {
+    return viq_core_candidacy_state(CANDIDACY(candidacy), state);
+}
+
+size_t viq_candidacy_rps(const struct viq_candidacy *candidacy) {
+    return viq_core_candidacy_rps(CANDIDACY(candidacy));
+}
+
+bool viq_candidacy_rp(const struct viq_candidacy *candidacy, size_t index, struct viq_candidacy_rp *row) {
+    return viq_core_candidacy_rp(CANDIDACY(candidacy), index, row);
 }

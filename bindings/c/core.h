@@ -17,6 +17,12 @@ struct viq_core_bsr {
     bool is_there;
 };
 
+/* A candidacy, or none, in the same way. */
+struct viq_core_candidacy {
+    void *place;
+    bool is_there;
+};
+
 /* The settings but the addresses. */
 struct viq_core_settings {
     uint32_t limit;
@@ -109,6 +115,10 @@ uint32_t viq_core_record_reload(const struct viq_call *call, const struct viq_co
 uint32_t viq_core_record_reload_places(const struct viq_call *call, const struct viq_core_configuration *given,
                                        const uint32_t *places, size_t place_count, uint8_t *room,
                                        size_t room_length, size_t *size);
+uint32_t viq_core_source_active(struct viq_core *router, const struct viq_source_active *told, uint8_t *room,
+                                size_t room_length, size_t *size);
+bool viq_core_registered(struct viq_core *router, const uint8_t *packet, size_t length, struct viq_source_group *name);
+bool viq_core_own_source(struct viq_core *router, uint32_t source, uint32_t group);
 uint32_t viq_core_sum(struct viq_core *router);
 uint64_t viq_core_probes(struct viq_core *router);
 uint64_t viq_core_touched(struct viq_core *router);
@@ -133,5 +143,21 @@ size_t viq_core_bsr_rps(struct viq_core_bsr *listener);
 bool viq_core_bsr_rp(struct viq_core_bsr *listener, size_t index, struct viq_bsr_rp *row);
 size_t viq_core_bsr_parts(struct viq_core_bsr *listener);
 bool viq_core_bsr_part(struct viq_core_bsr *listener, size_t index, struct viq_bsr_part *row);
+uint32_t viq_core_candidacy_new(struct viq_core_candidacy *candidacy, const struct viq_candidacy_settings *settings,
+                                const struct viq_prefix *ranges, size_t count, uint64_t moment);
+void viq_core_candidacy_end(struct viq_core_candidacy *candidacy);
+uint32_t viq_core_candidacy_hear(struct viq_core_candidacy *candidacy, struct viq_core_bsr *listener,
+                                 struct viq_core *router, uint32_t iface, const uint8_t *packet, size_t length,
+                                 uint32_t draw, bool *moved);
+uint32_t viq_core_candidacy_unicast(struct viq_core_candidacy *candidacy, struct viq_core *router,
+                                    const uint8_t *packet, size_t length);
+uint64_t viq_core_candidacy_next(struct viq_core_candidacy *candidacy);
+uint32_t viq_core_candidacy_pass(struct viq_core_candidacy *candidacy, struct viq_core_bsr *listener,
+                                 struct viq_core *router, uint64_t moment, uint32_t draw, bool *moved);
+uint32_t viq_core_candidacy_leave(struct viq_core_candidacy *candidacy, struct viq_core_bsr *listener,
+                                  struct viq_core *router);
+bool viq_core_candidacy_state(struct viq_core_candidacy *candidacy, struct viq_candidacy_state *state);
+size_t viq_core_candidacy_rps(struct viq_core_candidacy *candidacy);
+bool viq_core_candidacy_rp(struct viq_core_candidacy *candidacy, size_t index, struct viq_candidacy_rp *row);
 
 #endif

@@ -51,6 +51,7 @@ const char *viq_answer_text(uint32_t answer) {
     case VIQ_NO_SETTING: return "no setting has this number";
     case VIQ_UNTAKEN: return "packets of the event before are untaken";
     case VIQ_NO_LISTENER: return "there is no listener for Bootstraps";
+    case VIQ_NO_CANDIDACY: return "there is no candidacy";
     case VIQ_NOT_OURS: return "the bytes are no saved state";
     case VIQ_OTHER_VERSION: return "the state was saved in another version of its format";
     case VIQ_CUT_SHORT: return "the saved state is cut short";
@@ -78,6 +79,7 @@ const char *viq_answer_text(uint32_t answer) {
     case VIQ_LATE_REFRESH: return "ignored: the Bootstrap is for a router that has just started";
     case VIQ_NOT_FROM_RPF: return "ignored: the Bootstrap doesn't come from the RPF neighbour of its BSR";
     case VIQ_NOT_PREFERRED: return "ignored: the Bootstrap's BSR has less weight than the elected one";
+    case VIQ_NOT_ELECTED: return "ignored: the router isn't the elected BSR";
     default: return "no answer of this library";
     }
 }

@@ -104,10 +104,10 @@ class Tables(unittest.TestCase):
         self.assertEqual(self.holders("refusal_number Refusal.BadOption = 80"), {"crates/pim_ip/specs/Refusal.antt"})
 
     def test_so_is_an_answer_of_the_library_alone(self):
-        text = '[[answer]]\nnumber = 57\nname = "BadCall"\nabout = "An odd call."\nsays = "an odd call"\n\n'
+        text = '[[answer]]\nnumber = 58\nname = "BadCall"\nabout = "An odd call."\nsays = "an odd call"\n\n'
         self.changed("tables/answers.toml", "[[answer]]\nnumber = 60\n", f"{text}[[answer]]\nnumber = 60\n")
         self.assertEqual(self.ran("--write")[0], 0)
-        self.assertEqual(self.holders("/// An odd call.\npub const BAD_CALL: u32 = 57;"), {
+        self.assertEqual(self.holders("/// An odd call.\npub const BAD_CALL: u32 = 58;"), {
             "crates/pim_c/src/returned.rt"})
         self.assertEqual(self.holders('VIQ_BAD_CALL: return "an odd call";'), {"bindings/c/texts.c"})
 

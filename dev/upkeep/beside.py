@@ -28,9 +28,11 @@ JUDGES = [Path(checks.__file__),
           *(Path(__file__).with_name(f"{it}.py") for it in ("beside", "edits", "functions", "together"))]
 # What is run once a crate is proved: the archive for C is built over the libraries that the gate has proved just now,
 # and what both of the kit's compilers made of the program plays the stored scenarios, and is refused things by the
-# system. The kernel computes the lines of the stored scenarios by the definitions, beside the worked runs.
+# system. The kernel computes the lines of the stored scenarios by the definitions, beside the worked runs, and refuses
+# a wrong one.
 ONCE_PROVED = {
-    "pim_runs": [({}, "dev/computed_run --seconds 1200 crates/test_scenarios/data")],
+    "pim_runs": [({}, "dev/computed_run --seconds 1200 crates/test_scenarios/data"),
+                 ({"KERNEL": "1"}, "dev/try_tools computed_run")],
     "pim_c": [({}, "tools/library --after-test")],
     "pimlab": [({"PIMLAB_BUILD": it}, "dev/try_tools pimlab wires") for it in ("proved", "by-rattle")],
 }

@@ -23,14 +23,17 @@ NAMES = {
     "UpstreamColumns": "viq_upstream_row", "RptColumns": "viq_rpt_row", "ActiveColumns": "viq_active_row",
     "CRow": "viq_core_row", "GivenCall": "viq_call", "ListenerHandle": "viq_core_bsr", "CElected": "viq_bsr_elected",
     "LearnedRow": "viq_bsr_rp", "PartRow": "viq_bsr_part", "GivenRpSet": "viq_rp_set",
-    "GivenCandidate": "viq_candidate",
+    "GivenCandidate": "viq_candidate", "GivenCandidacy": "viq_candidacy_settings", "GivenPrefix": "viq_prefix",
+    "CandidacyHandle": "viq_core_candidacy", "CandidacyState": "viq_candidacy_state",
+    "AdvertisedRow": "viq_candidacy_rp", "GivenActive": "viq_source_active",
 }
 # A place is a pointer beside what takes no room.
 TYPES = {"u8": "uint8_t", "u32": "uint32_t", "u64": "uint64_t", "usize": "size_t", "bool": "bool", "Place": "void *",
-         "ListenerPlace": "void *"}
+         "ListenerPlace": "void *", "CandidacyPlace": "void *"}
 # The files of the crate that have its values, and those that have its calls.
-OF_VALUES = ("handle.rt", "given.rt", "returned.rt", "rows.rt", "trees.rt", "recorded.rt", "listening.rt", "learned.rt")
-OF_CALLS = ("calls.rt", "bootstraps.rt")
+OF_VALUES = ("handle.rt", "given.rt", "returned.rt", "rows.rt", "trees.rt", "recorded.rt", "listening.rt", "learned.rt",
+             "standing.rt", "stands.rt", "advertised.rt", "sources.rt")
+OF_CALLS = ("calls.rt", "bootstraps.rt", "candidacies.rt", "sources.rt")
 STRUCT = re.compile(r"#\[repr\(C\)\]\n(?:#\[[^\n]*\]\n)?pub struct (\w+)(?:<'a>)? \{\n(.*?)^\}", re.M | re.S)
 FIELD = re.compile(r"^    (?:pub )?(\w+): (&'a \[)?(\w+)\]?,$", re.M)
 CALL = re.compile(r'^pub extern "C" fn (viq_core_\w+)\((.*?)\)(?: -> (\w+))?\n', re.M | re.S)
@@ -50,10 +53,10 @@ def structs() -> dict[str, list[tuple[str, str]]]:
 
 
 def c_fields(name: str, is_lent: str, kind: str) -> Iterator[tuple[str, str]]:
-    """A field as C has it: of a list its first value's place, and how many values it has."""
+    """A field as C has it: of a list its first value's place, and how many values it has; of bytes their length."""
     if is_lent:
         yield name, f"const {c_type(kind)} *"
-        yield re.sub("(?<=ss)es$|s$", "", name) + "_count", "size_t"
+        yield "length" if kind == "u8" else re.sub("(?<=ss)es$|s$", "", name) + "_count", "size_t"
     else:
         yield name, c_type(kind)
 

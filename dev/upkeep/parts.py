@@ -87,6 +87,7 @@ SMALL = {
     "restarted": "--unproved --runs 10 --spoilt 20 --facts 1000", "plane": "--unproved --runs 100",
     "memory": "--unproved --seconds 20", "program": "--every 10",
     "bootstraps": "--unproved --seconds 10 --storm 10", "candidates": "--unproved --seconds 5",
+    "elections": "--unproved --seconds 5",
     "events": "--unproved --facts 10", "forward": "--unproved --rows 10 --copies 1 --packets 640",
     "timers": "--unproved 1 '' 1000",
 }

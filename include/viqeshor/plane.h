@@ -81,11 +81,6 @@ struct viq_plane_row {
 VIQ_READ_ANSWER VIQ_NOT_NULL(4)
 bool viq_offload(const struct viq_router *router, uint32_t source, uint32_t group, struct viq_plane_row *row);
 
-struct viq_source_group {
-    uint32_t source;
-    uint32_t group;
-};
-
 /* How many sources there are whose rows may have changed at the last event; and one of them, counted from 0. Each source
  * is listed once, ascending by group and then by source. viq_changed_source answers false, and writes nothing, where
  * there is none of that number. There is none where viq_touched is 0, and none for a lost router. */

@@ -65,8 +65,8 @@ extern "C" {
 
 /* The number of what a compiled program and a library have to agree on: the values, the calls and the numbers of this
  * header and of plane.h. Wherever one of them changes, this number changes. A program passes it to viq_new, viq_restore,
- * viq_bsr_new and viq_bsr_restore, which refuse any other. */
-#define VIQ_ABI 12
+ * viq_bsr_new, viq_bsr_restore and viq_candidacy_new, which refuse any other. */
+#define VIQ_ABI 13
 
 /* The library's number: VIQ_ABI as it was built with. */
 uint32_t viq_abi(void);
@@ -138,6 +138,7 @@ enum {
     VIQ_NO_SETTING = 54, /* no setting has this number */
     VIQ_UNTAKEN = 55, /* packets of the event before are untaken, and nothing has changed: viq_take, viq_clear */
     VIQ_NO_LISTENER = 56, /* the listener is NULL */
+    VIQ_NO_CANDIDACY = 57, /* the candidacy is NULL */
 
     /* of saved bytes */
     VIQ_NOT_OURS = 60,
@@ -168,7 +169,8 @@ enum {
     VIQ_SCOPED = 111,
     VIQ_LATE_REFRESH = 112,
     VIQ_NOT_FROM_RPF = 113,
-    VIQ_NOT_PREFERRED = 114
+    VIQ_NOT_PREFERRED = 114,
+    VIQ_NOT_ELECTED = 115
 };
 
 /* Whether an event or a configuration was refused; whether an event was ignored; whether the router is lost, by this
@@ -819,6 +821,62 @@ struct viq_rp_set {
 VIQ_READ_ANSWER
 uint32_t viq_anycast(struct viq_router *router, const struct viq_rp_set *sets, size_t count);
 
+/* ---- sources of other RPs (MSDP, RFC 3618)
+ *
+ * RPs tell each other of the sources that register to them, by Source-Active messages (SAs) over sessions of TCP. The
+ * sessions are a program's; these calls are the joint to the router. An SA is taken as if a DR had sent a Null-Register of
+ * its source, or a Register of the packet that it encapsulates: the RP knows the source for 210 s, and joins it where the
+ * group has receivers. Without these calls nothing of this happens. */
+
+/* A source of a group. */
+struct viq_source_group {
+    uint32_t source;
+    uint32_t group;
+};
+
+/* An SA of one source. */
+struct viq_source_active {
+    uint32_t peer;         /* the peer that sent it: a host's address */
+    uint32_t rp;           /* the RP of the group, an address of the router */
+    uint32_t source;       /* a host's address */
+    uint32_t group;        /* a group's address */
+    const uint8_t *packet; /* the packet that it encapsulates; one of another source or group, or longer than 1,500 bytes,
+                            * is left out */
+    size_t length;         /* or 0 */
+};
+
+/* An SA as an event of the router: viq_unicast of what viq_source_active_packet writes, and answers as that does; or
+ * VIQ_NOT_FOR_ME, where nothing has changed, of a source on a link of the router's, where it hears the source itself.
+ * VIQ_NOT_FOR_ME also answers an SA to an address that isn't the router's. One to an address that isn't the RP of the
+ * group changes nothing. A VIQ_UNICAST to the peer, a Register-Stop, may be among what is to be sent then: it isn't to be
+ * sent, since the peer registers nothing. */
+VIQ_READ_ANSWER VIQ_NOT_NULL(2)
+uint32_t viq_source_active(struct viq_router *router, const struct viq_source_active *told, struct viq_draw draw);
+
+/* Writes the packet in which the router is to be given an SA, as many of its bytes as the room holds, and how many it has,
+ * at most VIQ_MOST_BYTES; 0 where it is to be given nothing. It has a TTL of 1, so that viq_anycast's sets don't send it
+ * on. A program that records its events records it as one of viq_unicast. It answers VIQ_DONE; VIQ_MEMORY, VIQ_FAILED or
+ * VIQ_NO_ROUTER, where nothing is written. */
+VIQ_READ_ANSWER VIQ_NOT_NULL(2) VIQ_NOT_NULL(5)
+uint32_t viq_source_active_packet(const struct viq_router *router, const struct viq_source_active *told, uint8_t *room,
+                                  size_t room_length, size_t *size);
+
+/* Which sources an RP tells its peers of: those that register to it, and those on links of which it is the DR; never one
+ * that it knows by an SA alone.
+ *
+ * The source that a packet of viq_unicast registers, if it is a DR's Register, or a Null-Register, to the RP of its group,
+ * an address of the router's. It answers false, and writes nothing, for any other packet: one that another of a set of
+ * viq_anycast sent on, one with a TTL of 1, as an SA's has. The router tells of the source for as long as Registers come:
+ * a DR sends one at least every 90 s. */
+VIQ_READ_ANSWER VIQ_NOT_NULL(4)
+bool viq_registered(const struct viq_router *router, const uint8_t *packet, size_t length,
+                    struct viq_source_group *name);
+
+/* Whether a source is on a link of which the router is the DR, sends, and has the router as the RP of its group. The sources
+ * with a fact are the rows of table F. */
+VIQ_READ_ANSWER
+bool viq_own_source(const struct viq_router *router, uint32_t source, uint32_t group);
+
 /* ---- RPs that are learned of Bootstraps (RFC 5059)
  *
  * The routers of a domain can learn their RPs of one of them, the bootstrap router (BSR), whose Bootstrap messages they
@@ -826,8 +884,8 @@ uint32_t viq_anycast(struct viq_router *router, const struct viq_rp_set *sets, s
  * as they say it, and says which RPs the router is to have beside the configured ranges. A configured range wins over
  * a learned one of the same prefix. Of the RPs of one learned range the router is given the one that a hash of the
  * range's prefix chooses, in a range; or, where viq_bsr_choose says so, all of them as candidates, of which it chooses
- * for each group. The router is no candidate BSR or RP, and admin scope zones aren't built. Without a listener nothing of
- * this happens.
+ * for each group. Without a candidacy (below) the router is no candidate BSR or RP, and admin scope zones aren't built.
+ * Without a listener nothing of this happens.
  *
  * A program that has a listener makes these calls, in this order:
  *
@@ -993,6 +1051,153 @@ VIQ_READ_ANSWER
 size_t viq_bsr_parts(const struct viq_bsr *bsr);
 VIQ_NOT_NULL(3)
 bool viq_bsr_part(const struct viq_bsr *bsr, size_t index, struct viq_bsr_part *row);
+
+/* ---- candidate BSRs and candidate RPs (RFC 5059)
+ *
+ * A router with a listener may also stand as BSR, or as RP, or as both. What it needs for that is a candidacy. As a
+ * candidate BSR it yields to any that has more weight, and where it hears of none it is elected itself: then it sends
+ * Bootstraps, which say the RPs that advertised themselves to it, and its listener learns them as all others do. As a
+ * candidate RP it tells the elected BSR every 60 s for which groups it would be the RP. Admin scope zones aren't built.
+ * Without a candidacy nothing of this happens.
+ *
+ * A program that has a candidacy makes these calls, in this order. After each of them that has a router the packets are
+ * taken by viq_take, as after an event, and leave first. Where one says that the RPs moved, viq_bsr_give follows, with
+ * the draw of the call.
+ *
+ * - A packet on a link goes to the router by viq_frame. Where this answers VIQ_OTHER_TYPE the packet goes to
+ *   viq_candidacy_hear, in place of viq_bsr_hear.
+ * - A packet to one of the router's addresses goes to it by viq_unicast. Where this answers VIQ_NOT_FOR_ME the packet
+ *   goes to viq_candidacy_unicast.
+ * - Time passes to a moment: while the sooner one of viq_bsr_next and viq_candidacy_next isn't later than the moment,
+ *   viq_advance to that sooner one, and viq_candidacy_pass to the same, in place of viq_bsr_pass. Then viq_advance to
+ *   the moment, and viq_candidacy_pass to the moment. Time is to pass at the soonest one of viq_next_moment,
+ *   viq_bsr_next and viq_candidacy_next.
+ * - A candidacy that comes is made at the router's present, and viq_candidacy_pass to it follows.
+ * - A candidacy that goes says by viq_candidacy_leave that its RP goes.
+ *
+ * The other calls of a listener are those of the page above. What a candidacy knows isn't saved: after a restart it is
+ * made anew. */
+
+/* A candidacy. Whoever made it by viq_candidacy_new frees it by viq_candidacy_end. A candidacy may be NULL, as a router
+ * may. At any time at most one call uses a candidacy. */
+struct viq_candidacy;
+
+/* The most RPs of ranges that a candidate BSR holds; the most ranges of a candidate RP, which a packet has room for. A
+ * longer list is refused by its count, and isn't read. */
+#define VIQ_MOST_HELD 255
+#define VIQ_MOST_ADVERTISED 183
+
+/* As what a router stands. What is only of a role in which it doesn't stand isn't read. */
+struct viq_candidacy_settings {
+    bool is_bsr;           /* it is a candidate BSR */
+    uint32_t bsr;          /* its address as such: one of its own, to which all routers of the domain have a route */
+    uint32_t bsr_priority; /* 0 to 255; the higher is preferred; 64 is usual */
+    uint32_t hash_length;  /* bits of the hash function's mask that it says, 0 to 32; 30 is usual */
+    uint32_t limit;        /* the most RPs of ranges that it holds, 1 to VIQ_MOST_HELD; 143 is safe for one range */
+    bool is_rp;            /* it is a candidate RP */
+    uint32_t rp;           /* its address as such, of the same kind */
+    uint32_t rp_priority;  /* 0 to 255; the lower is preferred; 192 is usual */
+};
+
+/* A prefix of groups, in 224.0.0.0/4 and with no host bits. */
+struct viq_prefix {
+    uint32_t prefix;
+    uint32_t length; /* 4 to 32 */
+};
+
+/* Makes a candidacy, at the router's present. The ranges are those of which the router would be the RP, 1 to
+ * VIQ_MOST_ADVERTISED where it stands as RP; else they aren't read. The third argument is VIQ_ABI. It answers VIQ_DONE;
+ * VIQ_NO_SETTING where a value is out of its range, an address is no host's or a range is no prefix of groups;
+ * VIQ_MOMENT_FAR, VIQ_MEMORY or VIQ_OTHER_ABI. It writes what `candidacy` points to, and doesn't read it: the new
+ * candidacy, or NULL where there is none. */
+VIQ_READ_ANSWER VIQ_NOT_NULL(1) VIQ_NOT_NULL(3)
+uint32_t viq_candidacy_new(struct viq_candidacy **candidacy, uint32_t abi, const struct viq_candidacy_settings *settings,
+                           const struct viq_prefix *ranges, size_t count, uint64_t moment);
+
+/* Frees the candidacy and its memory. With NULL it does nothing. */
+void viq_candidacy_end(struct viq_candidacy *candidacy);
+
+/* Hears a packet that came on an interface, and to which viq_frame answered VIQ_OTHER_TYPE, in place of viq_bsr_hear: it
+ * is no event, and of the router it changes what is to be sent alone. `moved` gets whether the router is to be given
+ * other RPs; it gets false with each other answer than VIQ_DONE.
+ *
+ * VIQ_DONE: a Bootstrap counts, and is sent on; or a candidate BSR sends it on and doesn't take what it says; or it
+ * answers it by one of its own, since it is the BSR. With all others nothing has changed, but that an elected BSR, which
+ * answers VIQ_NOT_PREFERRED, may say sooner that it is one, and that a candidate RP tells the BSR that its listener
+ * knows. The others are those of viq_bsr_hear, in the order of its tests, with VIQ_NOT_PREFERRED where the candidate
+ * neither takes nor sends it on; VIQ_NO_CANDIDACY is looked for before VIQ_NO_LISTENER, and that before
+ * VIQ_NO_ROUTER. */
+VIQ_READ_ANSWER VIQ_NOT_NULL(8)
+uint32_t viq_candidacy_hear(struct viq_candidacy *candidacy, struct viq_bsr *bsr, struct viq_router *router,
+                            uint32_t iface, const uint8_t *packet, size_t length, struct viq_draw draw, bool *moved);
+
+/* Hears a packet to one of the router's addresses, to which viq_unicast answered VIQ_NOT_FOR_ME. It is no event, and
+ * changes nothing of the router.
+ *
+ * VIQ_DONE: an advertisement of a candidate RP was taken by an elected BSR, which says it as soon as it may:
+ * viq_candidacy_next may be sooner. With all others nothing has changed. VIQ_OTHER_TYPE: the packet is no advertisement
+ * to the candidate BSR's address. A refusal of a packet: it can't be read as one. VIQ_NOT_ELECTED: another one is the
+ * BSR, or none is. VIQ_MEMORY; VIQ_FAILED, VIQ_NO_ROUTER or VIQ_NO_CANDIDACY. Packets may be untaken. */
+VIQ_READ_ANSWER
+uint32_t viq_candidacy_unicast(struct viq_candidacy *candidacy, struct viq_router *router, const uint8_t *packet,
+                               size_t length);
+
+/* When the first timer of the candidacy expires, in ms; VIQ_NEVER where none runs, and for NULL. */
+VIQ_READ_ANSWER
+uint64_t viq_candidacy_next(const struct viq_candidacy *candidacy);
+
+/* Time passed to a moment, which is the router's present, for the listener too, in place of viq_bsr_pass: what has
+ * expired by then is forgotten, and of each timer of the candidacy that is due one step is taken. A BSR that is elected
+ * sends a Bootstrap, a candidate RP an advertisement, which leaves by unicast routing. `moved` gets whether the router is
+ * to be given other RPs; it gets false with each other answer than VIQ_DONE. It answers VIQ_DONE; where nothing has
+ * changed VIQ_MOMENT_FAR, VIQ_UNTAKEN, VIQ_MEMORY, VIQ_FAILED, VIQ_NO_ROUTER, VIQ_NO_LISTENER or VIQ_NO_CANDIDACY. */
+VIQ_READ_ANSWER VIQ_NOT_NULL(6)
+uint32_t viq_candidacy_pass(struct viq_candidacy *candidacy, struct viq_bsr *bsr, struct viq_router *router,
+                            uint64_t moment, struct viq_draw draw, bool *moved);
+
+/* Says that the RP goes: an advertisement with holdtime 0 is to be sent to the elected BSR. Where the router doesn't
+ * stand as RP, or no BSR is elected, nothing is. The candidacy stays as it is. It answers VIQ_DONE; where nothing has
+ * changed VIQ_UNTAKEN, VIQ_MEMORY, VIQ_FAILED, VIQ_NO_ROUTER, VIQ_NO_LISTENER or VIQ_NO_CANDIDACY. */
+VIQ_READ_ANSWER
+uint32_t viq_candidacy_leave(const struct viq_candidacy *candidacy, const struct viq_bsr *bsr,
+                             struct viq_router *router);
+
+/* What a router is as candidate BSR. */
+enum {
+    VIQ_BSR_NONE = 0,      /* it doesn't stand as BSR */
+    VIQ_BSR_CANDIDATE = 1, /* another one is the BSR */
+    VIQ_BSR_PENDING = 2,   /* none is: it may become the BSR */
+    VIQ_BSR_ELECTED = 3    /* it is the BSR */
+};
+
+/* How a candidacy stands. */
+struct viq_candidacy_state {
+    uint32_t role;     /* as candidate BSR */
+    uint64_t end;      /* ms, when the candidate's Bootstrap Timer expires; VIQ_NEVER where it doesn't stand as BSR */
+    uint32_t told;     /* the BSR that is told of the RP; 0 where none is */
+    uint64_t told_end; /* ms, when it is told next; VIQ_NEVER where none is */
+};
+
+/* How a candidacy stands; false, and nothing is written, for NULL. */
+VIQ_NOT_NULL(2)
+bool viq_candidacy_state(const struct viq_candidacy *candidacy, struct viq_candidacy_state *state);
+
+/* An RP of a range that advertised itself to a candidate BSR. */
+struct viq_candidacy_rp {
+    uint32_t prefix; /* of the range */
+    uint32_t length;
+    uint32_t rp;
+    uint32_t priority; /* 0 to 255; the lower is preferred */
+    uint32_t holdtime; /* seconds */
+    uint64_t end;      /* ms, when its holdtime is over */
+};
+
+/* How many there are; and one of them, counted from 0, in the order in which they came. viq_candidacy_rp answers false,
+ * and writes nothing, where there is none of that number. */
+VIQ_READ_ANSWER
+size_t viq_candidacy_rps(const struct viq_candidacy *candidacy);
+VIQ_NOT_NULL(3)
+bool viq_candidacy_rp(const struct viq_candidacy *candidacy, size_t index, struct viq_candidacy_rp *row);
 
 /* ---- older versions of IGMP (RFC 3376, section 7.3)
  *

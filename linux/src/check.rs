@@ -57,10 +57,20 @@ fn of_the_file(settings: &Settings) -> Vec<String> {
             set.shared
         ));
     }
+    let room = settings.bsr.as_ref().map_or(0, |bsr| bsr.limit);
+    if let Some(bsr) = settings.candidacy.bsr.filter(|bsr| bsr.limit > room) {
+        notes.push(format!(
+            "the candidate BSR holds up to {} RPs of ranges, and the router itself learns {room} at most: `limit` of [bsr]",
+            bsr.limit
+        ));
+    }
     if settings.stays_on_shared_tree && !settings.rp_sets.is_empty() {
         notes.push(
             "with spt \"never\" this router joins no source of which another RP of [[anycast]] tells it".to_string(),
         );
+    }
+    if settings.stays_on_shared_tree && !settings.msdp.is_empty() {
+        notes.push("with spt \"never\" this router joins no source of which a peer of [[msdp]] tells it".to_string());
     }
     let open: Vec<_> = settings.interfaces.iter().filter(|it| is_open(it)).map(|it| it.name.as_str()).collect();
     if !open.is_empty() {
@@ -85,6 +95,13 @@ fn of_the_machine(settings: &Settings, (links, addresses): &Has) -> Vec<String> 
             notes.push(format!("this machine has no VRF {name} now: the router waits for it"));
         }
         _ => {}
+    }
+    let is_given = |address: Ipv4Addr| {
+        let given = settings.interfaces.iter().filter_map(|it| it.address).any(|subnet| subnet.address == address);
+        given || addresses.iter().any(|(_, subnet)| subnet.address == address)
+    };
+    for (role, address) in settings.candidacy.roles().filter(|(_, address)| !is_given(*address)) {
+        notes.push(format!("no interface has {address} now: the router is no {role} until one of its interfaces has"));
     }
     for interface in settings.interfaces.iter().filter(|it| it.address.is_none()) {
         let index = link(&interface.name).map(|link| link.index);
@@ -129,6 +146,9 @@ mod tests {
         assert_eq!(noted(TWO, "eth0 has neither `passive` nor `neighbors`"), 1);
         let listed = TWO.replace("\"eth0\"\n", "\"eth0\"\nneighbors = [\"10.0.0.2\"]\n");
         assert_eq!(noted(&listed, "neither `passive`"), 0);
+        let with_peer = format!("{TWO}[[msdp]]\npeer = \"10.0.0.2\"\naddress = \"10.0.0.1\"\n");
+        let never = format!("spt = \"never\"\n{with_peer}");
+        assert_eq!((noted(&with_peer, "[[msdp]]"), noted(&never, "[[msdp]]")), (0, 1));
     }
 
     #[test]
@@ -161,6 +181,13 @@ mod tests {
             of_the_machine(&absent, &(Vec::new(), Vec::new())),
             ["this machine has no interface vq-none0, vq-none1 now"]
         );
+    }
+
+    #[test]
+    fn what_a_candidate_lacks_is_noted() {
+        let text = "[bsr]\nlisten = true\nlimit = 9\ncandidate = { address = \"192.0.2.77\" }\n";
+        let of = |text: &str| noted(&format!("{TWO}{text}"), "candidate BSR");
+        assert_eq!((of(text), of(&text.replace("77\"", "77\", limit = 9"))), (2, 1));
     }
 
     #[test]

@@ -8,15 +8,16 @@ use crate::packet::{self, is_pim, HELLO};
 use crate::plane::Row;
 use crate::ports::{self, Places, Port};
 use crate::recorder::{answer_of, Configuration, Place, Recorder, Set};
-use crate::settings::{BsrSettings, RpSettings, Settings};
+use crate::settings::{BsrSettings, CandidacySettings, RpSettings, Settings};
 use log::{error, info};
 use rand::rngs::{OsRng, StdRng};
 use rand::{Rng, RngCore, SeedableRng};
 use std::collections::{BTreeMap, BTreeSet};
 use std::net::Ipv4Addr;
 use viqeshor::{
-    Bsr, Candidate, Choice, Elected, Error, Heard, LearnedPart, LearnedRp, Link, NeighbourRow, OlderRow, Range, Reason,
-    Refusal, Route, Router, RpSet, SourceTree, Table, TableRow, Target, Tree, Verdict,
+    Bsr, Candidacy, Candidate, Choice, Elected, Error, Heard, HeldRp, LearnedPart, LearnedRp, Link, NeighbourRow,
+    OlderRow, Range, Reason, Refusal, Route, Router, RpSet, SourceActive, SourceTree, Standing, Table, TableRow,
+    Target, Tree, Verdict,
 };
 
 /// A Hello that an event triggers leaves after a part of Triggered_Hello_Delay, in ms (RFC 7761, 4.3.1 and 4.11), which
@@ -65,6 +66,8 @@ pub enum Answer {
     Ignored,
     /// Ignored as PIM of a type that the library's router doesn't handle.
     OtherType,
+    /// Ignored as not for the library's router.
+    NotForMe,
     /// The guard stopped it.
     Guarded,
     Refused(Refusal),
@@ -81,6 +84,8 @@ pub struct Core {
     draw: u32,
     /// What hears Bootstraps, and the most RPs that it keeps, where they are heard.
     listener: Option<(Bsr, u32)>,
+    /// By which the router stands as BSR or RP, and as what, where it does.
+    candidacy: Option<(Candidacy, CandidacySettings)>,
     /// What the router was told of how its interfaces speak IGMP.
     speech: BTreeMap<u32, Speech>,
     /// On which interfaces the router before this one knew older hosts, as long as it isn't told which they hear.
@@ -157,6 +162,7 @@ impl Core {
             draws: StdRng::from_rng(OsRng)?,
             draw: 0,
             listener: None,
+            candidacy: None,
             speech: BTreeMap::new(),
             restored: BTreeSet::new(),
             has_guard: true,
@@ -394,6 +400,7 @@ impl Core {
             Ok(Verdict::Done) => Ok(Answer::Done),
             Ok(Verdict::Ignored(Reason::Guarded)) => Ok(Answer::Guarded),
             Ok(Verdict::Ignored(Reason::OtherType)) => Ok(Answer::OtherType),
+            Ok(Verdict::Ignored(Reason::NotForMe)) => Ok(Answer::NotForMe),
             Ok(Verdict::Ignored(_)) => Ok(Answer::Ignored),
             Err(Error::Refused(refusal)) => Ok(Answer::Refused(refusal)),
             Err(error) => Err(Fatal::Router(error)),
@@ -422,10 +429,40 @@ impl Core {
         }
     }
 
-    /// In ms; `None` where no timer runs, and no RP that is learned ends.
+    /// In ms; `None` where no timer runs, no RP that is learned ends, and no candidacy is due.
     pub fn next_moment(&mut self) -> Option<u64> {
         let (router, end) = (&self.router, self.next_end());
         *self.next.get_or_insert_with(|| router.next_moment().into_iter().chain(end).min())
+    }
+
+    // ---- MSDP
+
+    /// The packet in which the router is to be given a Source-Active message; `None` where it is to be given nothing, or
+    /// memory is refused.
+    pub fn source_active(&mut self, told: &SourceActive) -> Option<Vec<u8>> {
+        let given = self.router.source_active_packet(told);
+        self.refused_memory += u64::from(matches!(given, Err(Error::Memory)));
+        given.ok().flatten()
+    }
+
+    /// The source that a DR's Register to the router names.
+    pub fn registered(&self, packet: &[u8]) -> Option<Key> {
+        self.router.registered(packet).map(|name| Key { source: name.source(), group: name.group() })
+    }
+
+    /// Whether the router is the RP of a source on a link of which it is the DR.
+    pub fn is_own_source(&self, key: Key) -> bool {
+        self.router.is_own_source(key.source, key.group)
+    }
+
+    /// Whether KeepaliveTimer(S,G) runs.
+    pub fn is_kept_alive(&self, key: Key) -> bool {
+        self.source_tree(key).map_or(false, |tree| tree.is_kept_alive)
+    }
+
+    /// RP(G).
+    pub fn rp(&self, group: Ipv4Addr) -> Option<Ipv4Addr> {
+        self.tree(group).and_then(|tree| tree.rp)
     }
 
     // ---- Bootstraps
@@ -485,27 +522,35 @@ impl Core {
     /// A packet that the router ignored for its type is heard. What leaves of it is to leave.
     pub fn hear(&mut self, iface: u32, packet: &[u8]) -> Result<Heard, Error> {
         self.next = None;
-        let Core { router, listener, .. } = self;
-        let heard = match listener {
-            Some((bsr, _)) => bsr.hear(router, iface, packet)?,
-            None => Heard::Other,
+        let Core { router, listener, candidacy, draws, .. } = self;
+        let heard = match (listener, candidacy) {
+            (Some((bsr, _)), Some((candidacy, _))) => candidacy.hear(bsr, router, iface, packet, draws.next_u32())?,
+            (Some((bsr, _)), None) => bsr.hear(router, iface, packet)?,
+            (None, _) => Heard::Other,
         };
         self.sent.take(&mut self.router);
         Ok(heard)
     }
 
-    /// When the first RP that is learned ends, in ms.
+    /// When the first RP that is learned ends, or a timer of the candidacy, in ms.
     pub fn next_end(&self) -> Option<u64> {
-        self.listener.as_ref().and_then(|(bsr, _)| bsr.next_end())
+        let learned = self.listener.as_ref().and_then(|(bsr, _)| bsr.next_end());
+        let candidacy = self.candidacy.as_ref().and_then(|(it, _)| it.next_end());
+        learned.into_iter().chain(candidacy).min()
     }
 
-    /// Time passed to a moment, in ms. It tells whether the router is to be given other ranges.
+    /// Time passed to a moment, in ms. It tells whether the router is to be given other ranges. What leaves of it is to
+    /// leave.
     pub fn pass(&mut self, moment: u64) -> Result<bool, Fatal> {
         self.next = None;
-        match &mut self.listener {
-            Some((bsr, _)) => Ok(bsr.pass(moment)?),
-            None => Ok(false),
-        }
+        let Core { router, listener, candidacy, draws, .. } = self;
+        let moved = match (listener, candidacy) {
+            (Some((bsr, _)), Some((candidacy, _))) => candidacy.pass(bsr, router, moment, draws.next_u32())?,
+            (Some((bsr, _)), None) => bsr.pass(moment)?,
+            (None, _) => false,
+        };
+        self.sent.take(&mut self.router);
+        Ok(moved)
     }
 
     /// The BSR that is elected.
@@ -531,6 +576,50 @@ impl Core {
     /// Those of which fragments are missing.
     pub fn learned_parts(&self) -> Vec<LearnedPart> {
         self.listener.as_ref().map_or_else(Vec::new, |(bsr, _)| bsr.parts())
+    }
+
+    // ---- candidacies
+
+    /// As what the router stands.
+    pub fn stands_as(&self) -> Option<&CandidacySettings> {
+        self.candidacy.as_ref().map(|(_, settings)| settings)
+    }
+
+    /// It stands so from a moment on, in ms, by a candidacy that begins anew, or as nothing.
+    pub fn stand(&mut self, wanted: Option<CandidacySettings>, now: u64) -> Result<(), Fatal> {
+        self.next = None;
+        let begun = |it: CandidacySettings| Ok((Candidacy::new(it.bsr.as_ref(), it.rp.as_ref(), now)?, it));
+        self.candidacy = wanted.map(begun).transpose().map_err(Fatal::Router)?;
+        Ok(())
+    }
+
+    /// The elected BSR is told that the router goes as RP, where it stands as one.
+    pub fn leave_as_rp(&mut self) -> Result<(), Error> {
+        let Core { router, listener, candidacy, .. } = self;
+        if let (Some((bsr, _)), Some((candidacy, _))) = (listener, candidacy) {
+            candidacy.leave(bsr, router)?;
+        }
+        self.sent.take(&mut self.router);
+        Ok(())
+    }
+
+    /// A packet to an address of the router, which this ignored as not for it, is heard.
+    pub fn hear_unicast(&mut self, packet: &[u8]) -> Result<Verdict, Error> {
+        self.next = None;
+        match &mut self.candidacy {
+            Some((candidacy, _)) => candidacy.hear_unicast(&mut self.router, packet),
+            None => Ok(Verdict::Ignored(Reason::OtherType)),
+        }
+    }
+
+    /// How the candidacy stands.
+    pub fn standing(&self) -> Option<Standing> {
+        self.candidacy.as_ref().map(|(candidacy, _)| candidacy.standing())
+    }
+
+    /// The RPs that advertised themselves to the router as BSR.
+    pub fn held(&self) -> Vec<HeldRp> {
+        self.candidacy.as_ref().map_or_else(Vec::new, |(candidacy, _)| candidacy.rps())
     }
 
     /// Whether no packet is to leave.

@@ -9,6 +9,8 @@ pub struct Counters {
     pub refused: BTreeMap<u32, u64>,
     /// Bootstraps that didn't count, by the number of the answer.
     pub bootstraps_left_out: BTreeMap<u32, u64>,
+    /// Advertisements of candidate RPs that weren't taken, by the number of the answer.
+    pub advertisements_left_out: BTreeMap<u32, u64>,
     /// PIM from and to addresses of routers.
     pub unicasts: Passing,
     /// How long an event took, with all that followed of it.
@@ -36,6 +38,10 @@ pub struct Counters {
     pub bootstraps_taken: u64,
     /// The number of times that Bootstraps moved the RPs.
     pub bootstrap_moves: u64,
+    /// The number of advertisements of RPs that the router took.
+    pub advertisements_taken: u64,
+    /// The number of connections to the port of MSDP of no peer that connects.
+    pub msdp_strangers: u64,
     /// The number of reports of programs on the router.
     pub own_reports: u64,
     /// The number of unicasts heard.
@@ -64,14 +70,12 @@ pub struct Counters {
     pub entries_refused: u64,
 }
 
-impl Counters {
-    /// How many Bootstraps didn't count, by the reason in words.
-    pub fn left_out(&self) -> impl Iterator<Item = (&'static str, u64)> + '_ {
-        self.bootstraps_left_out.iter().map(|(number, count)| {
-            let words = viqeshor::answer_text(*number);
-            (words.strip_prefix("ignored: ").unwrap_or(words), *count)
-        })
-    }
+/// How many there were by the reason in words, of counts by the number of the answer.
+pub fn by_reason(counts: &BTreeMap<u32, u64>) -> impl Iterator<Item = (&'static str, u64)> + '_ {
+    counts.iter().map(|(number, count)| {
+        let words = viqeshor::answer_text(*number);
+        (words.strip_prefix("ignored: ").unwrap_or(words), *count)
+    })
 }
 
 /// What a message of PIM or IGMP is.
@@ -84,6 +88,8 @@ pub enum Message {
     JoinPrune,
     Assert,
     Bootstrap,
+    /// Of a candidate RP.
+    Advertisement,
     OtherPim,
     Query,
     Report,
@@ -93,7 +99,7 @@ pub enum Message {
 }
 
 impl Message {
-    pub const ALL: [Message; 12] = [
+    pub const ALL: [Message; 13] = [
         Message::Hello,
         Message::Register,
         Message::NullRegister,
@@ -101,6 +107,7 @@ impl Message {
         Message::JoinPrune,
         Message::Assert,
         Message::Bootstrap,
+        Message::Advertisement,
         Message::OtherPim,
         Message::Query,
         Message::Report,
@@ -122,6 +129,7 @@ impl Message {
             Message::JoinPrune => "join_prune",
             Message::Assert => "assert",
             Message::Bootstrap => "bootstrap",
+            Message::Advertisement => "candidate_rp",
             Message::OtherPim | Message::OtherIgmp => "other",
             Message::Query => "query",
             Message::Report => "report",

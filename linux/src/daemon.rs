@@ -3,10 +3,12 @@
 mod anew;
 mod bfd;
 mod bootstraps;
+mod candidacy;
 mod cleared;
 mod forwarding;
 mod heard;
 mod machine;
+mod msdp;
 mod overridden;
 mod reconfigured;
 mod renumbered;
@@ -144,6 +146,7 @@ impl Pace {
 }
 
 pub use bootstraps::{Chosen, Rp};
+pub use msdp::{Msdp, Shown as Peer};
 pub use resumed::Way;
 
 pub struct Daemon {
@@ -165,6 +168,8 @@ pub struct Daemon {
     /// Of BFD, with neighbours.
     sessions: BTreeMap<Place, Session>,
     overrides: Overrides,
+    /// Of MSDP, with other RPs.
+    pub msdp: Msdp,
     due: Due,
     stale: Stale,
     /// How many lines were said lately, by their kinds and interfaces.
@@ -178,6 +183,8 @@ pub struct Daemon {
     pace: Pace,
     /// The source of the data packet that the router has in hand, and where it came.
     in_hand: Option<(Key, Option<u32>)>,
+    /// What leaves to it by unicast for the event in hand isn't sent.
+    silent_to: Option<Ipv4Addr>,
     /// What is kept for a router that begins after this one ended.
     keeping: upgrade::Keeping,
     successor: upgrade::Successor,
@@ -251,6 +258,7 @@ impl Daemon {
             older_heard: BTreeSet::new(),
             sessions: BTreeMap::new(),
             overrides: Overrides::default(),
+            msdp: Msdp::default(),
             due: Due::default(),
             stale: Stale::default(),
             said: Said::default(),
@@ -259,6 +267,7 @@ impl Daemon {
             designated: BTreeMap::new(),
             pace: Pace::default(),
             in_hand: None,
+            silent_to: None,
             keeping: upgrade::Keeping::default(),
             successor: upgrade::Successor::default(),
             settings,
@@ -270,6 +279,7 @@ impl Daemon {
         self.core.set_guard(self.settings.guard)?;
         let unfit = self.core.set_rp_sets(&self.settings.rp_sets)?;
         unfit.iter().for_each(|line| warn!("{line}"));
+        self.stand()?;
         self.listen()?;
         self.ports.iter().try_for_each(|port| self.core.speak(port.number, port.settings.speech))
     }
@@ -348,7 +358,7 @@ impl Daemon {
                 }
                 self.follow();
             }
-            Answer::Ignored | Answer::OtherType => self.counters.ignored += 1,
+            Answer::Ignored | Answer::OtherType | Answer::NotForMe => self.counters.ignored += 1,
             Answer::Guarded => self.note_guarded(event),
             Answer::Refused(refusal) => *self.counters.refused.entry(refusal as u32).or_default() += 1,
         }
@@ -402,11 +412,12 @@ impl Daemon {
             return;
         }
         self.watch_overrides();
-        let Daemon { core, kernel, ports, policy, counters, settings, machine, .. } = self;
+        let Daemon { core, kernel, ports, policy, counters, settings, machine, silent_to, .. } = self;
         let mut packing = Packing::default();
         core.each_packet(|target, bytes| {
             let to = match target.iface() {
                 Some(to) => to,
+                None if silent_to.map(Target::Unicast) == Some(target) => return,
                 None => return send_unicast(kernel.as_mut(), counters, bytes),
             };
             let index = ports.get(to as usize).and_then(|port| port.index).filter(|_| settings.packs);
@@ -445,6 +456,7 @@ impl Daemon {
     /// Keeps the kernel to the rows that the last event changed.
     fn follow(&mut self) {
         for key in self.core.changed() {
+            self.watch_own(key);
             let from = self.in_hand.filter(|(its, _)| *its == key).and_then(|(_, iface)| iface);
             match self.offload(key) {
                 Some(row) if row.is_known => {

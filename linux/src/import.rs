@@ -1,4 +1,5 @@
 //! What FRR's configuration says, and settings made of it, with the lines that have no counterpart.
+mod candidates;
 mod configuration;
 mod groups;
 mod lines;

@@ -35,7 +35,7 @@ pub struct Told {
 }
 
 impl Told {
-    fn is_own(&self, address: Ipv4Addr) -> bool {
+    pub fn is_own(&self, address: Ipv4Addr) -> bool {
         self.interfaces.iter().any(|it| it.0 == address) || self.addresses.contains(&address)
     }
 

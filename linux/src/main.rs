@@ -14,6 +14,7 @@ mod left;
 mod log;
 mod metrics;
 mod mroute;
+mod msdp;
 mod netlink;
 mod notify;
 mod older;

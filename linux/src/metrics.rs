@@ -2,7 +2,7 @@
 pub mod families;
 
 use crate::bfd::State;
-use crate::counters::{Message, Passing};
+use crate::counters::{by_reason, Message, Passing};
 use crate::daemon::Daemon;
 use crate::error::Fatal;
 use crate::older::Version;
@@ -135,11 +135,13 @@ pub fn text(daemon: &mut Daemon) -> Result<String, Fatal> {
     text.sample(families::BUILD_INFO.name, &versions, 1);
     process(daemon, &mut text);
     counts(daemon, &mut text);
+    text.one(&families::BSR_ELECTED, u64::from(daemon.is_bsr()));
     refusals(daemon, &mut text);
     took(daemon, &mut text);
     interfaces(daemon, &mut text);
     messages(daemon, &mut text);
     neighbours(daemon, &mut text);
+    msdp(daemon, &mut text);
     facts(daemon, &mut text)?;
     Ok(text.0)
 }
@@ -165,10 +167,13 @@ fn refusals(daemon: &Daemon, text: &mut Text) {
     for (number, count) in &daemon.counters.refused {
         text.sample(families::EVENTS_REFUSED_TOTAL.name, &[("reason", viqeshor::answer_text(*number))], count);
     }
-    const LEFT_OUT: &Family = &families::BOOTSTRAPS_LEFT_OUT_BY_REASON_TOTAL;
-    text.family(LEFT_OUT);
-    for (reason, count) in daemon.counters.left_out() {
-        text.sample(LEFT_OUT.name, &[("reason", reason)], count);
+    let left_out = [
+        (&families::BOOTSTRAPS_LEFT_OUT_BY_REASON_TOTAL, &daemon.counters.bootstraps_left_out),
+        (&families::ADVERTISEMENTS_LEFT_OUT_BY_REASON_TOTAL, &daemon.counters.advertisements_left_out),
+    ];
+    for (family, counts) in left_out {
+        text.family(family);
+        by_reason(counts).for_each(|(reason, count)| text.sample(family.name, &[("reason", reason)], count));
     }
     text.family(&families::POLICY_REFUSED_TOTAL);
     for (cause, place, count) in daemon.policy.refusals.by_cause() {
@@ -237,7 +242,7 @@ fn interfaces(daemon: &Daemon, text: &mut Text) {
 fn messages(daemon: &Daemon, text: &mut Text) {
     let ports = daemon.ports.iter().filter(|port| !port.is_removed);
     let mut passing: Vec<_> = ports.map(|port| (port.settings.name.as_str(), port.passed.messages)).collect();
-    // Registers and Register-Stops, by whichever interface.
+    // Registers, Register-Stops and advertisements of RPs, by whichever interface.
     passing.push(("", daemon.counters.unicasts));
     for (family, is_pim) in [(&families::PIM_MESSAGES_TOTAL, true), (&families::IGMP_MESSAGES_TOTAL, false)] {
         text.family(family);
@@ -249,7 +254,8 @@ fn messages(daemon: &Daemon, text: &mut Text) {
 
 fn of_interface(text: &mut Text, name: &str, interface: &str, passing: &Passing, is_pim: bool) {
     let is_unicast = |message: Message| {
-        matches!(message, Message::Register | Message::NullRegister | Message::RegisterStop | Message::OtherPim)
+        use Message::{Advertisement, NullRegister, OtherPim, Register, RegisterStop};
+        matches!(message, Register | NullRegister | RegisterStop | Advertisement | OtherPim)
     };
     let wanted = |message: &Message| message.is_pim() == is_pim && (!interface.is_empty() || is_unicast(*message));
     for message in Message::ALL.into_iter().filter(wanted) {
@@ -272,6 +278,33 @@ fn neighbours(daemon: &Daemon, text: &mut Text) {
         if let Some(state) = daemon.bfd_state(&(*iface, *address)) {
             let labels = [("interface", daemon.name(*iface)), ("neighbor", &address.to_string())];
             text.sample(families::BFD_SESSION_UP.name, &labels, u8::from(state == State::Up));
+        }
+    }
+}
+
+/// Sessions of MSDP, by their peers.
+fn msdp(daemon: &Daemon, text: &mut Text) {
+    let peers = daemon.msdp_peers();
+    text.family(&families::MSDP_SESSION_UP);
+    for peer in &peers {
+        let is_up = u8::from(peer.since.is_some());
+        text.sample(families::MSDP_SESSION_UP.name, &[("peer", &peer.peer.to_string())], is_up);
+    }
+    text.family(&families::MSDP_RESETS_TOTAL);
+    for peer in &peers {
+        text.sample(families::MSDP_RESETS_TOTAL.name, &[("peer", &peer.peer.to_string())], peer.tally.resets);
+    }
+    text.family(&families::MSDP_SOURCES);
+    for peer in &peers {
+        text.sample(families::MSDP_SOURCES.name, &[("peer", &peer.peer.to_string())], peer.kept);
+    }
+    text.family(&families::MSDP_NOT_TAKEN_TOTAL);
+    for peer in &peers {
+        let tally = peer.tally;
+        let reasons = [("rpf", tally.not_rpf), ("settings", tally.not_permitted), ("room", tally.no_room)];
+        for (reason, count) in reasons {
+            let labels = [("peer", &peer.peer.to_string()[..]), ("reason", reason)];
+            text.sample(families::MSDP_NOT_TAKEN_TOTAL.name, &labels, count);
         }
     }
 }

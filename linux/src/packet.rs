@@ -1,5 +1,6 @@
 //! IPv4 packets as bytes: the fields that the router's machine asks for, and checksums.
 use crate::counters::Message;
+use crate::settings::Subnet;
 use std::net::Ipv4Addr;
 use std::ops::Range;
 
@@ -174,6 +175,7 @@ pub fn message_of(packet: Packet) -> Option<Message> {
         (PIM, 0x23) => Some(Message::JoinPrune),
         (PIM, 0x24) => Some(Message::Bootstrap),
         (PIM, 0x25) => Some(Message::Assert),
+        (PIM, 0x28) => Some(Message::Advertisement),
         (PIM, _) => Some(Message::OtherPim),
         (IGMP, 0x11) => Some(Message::Query),
         (IGMP, 0x22) => Some(Message::Report),
@@ -191,6 +193,21 @@ pub fn goodbye_of(router: Ipv4Addr) -> Vec<u8> {
     header[12..16].copy_from_slice(&router.octets());
     header[16..].copy_from_slice(&ALL_PIM_ROUTERS.octets());
     with_content(&header, &hello)
+}
+
+/// The advertisement of a candidate RP of groups to a BSR (RFC 5059, 4.2), which holds for some seconds.
+pub fn advertisement_of(bsr: Ipv4Addr, groups: Subnet, (rp, priority): (Ipv4Addr, u8), holdtime: u16) -> Vec<u8> {
+    let mut message = vec![0x28, 0, 0, 0, 1, priority];
+    message.extend(holdtime.to_be_bytes());
+    message.extend([1, 0]);
+    message.extend(rp.octets());
+    message.extend([1, 0, 0, groups.length]);
+    message.extend(groups.address.octets());
+    put_checksum(&mut message, 2);
+    let mut header = [0x45, 0xc0, 0, 0, 0, 0, 0, 0, 1, PIM, 0, 0, 0, 0, 0, 0, 0, 0, 0, 0];
+    header[12..16].copy_from_slice(&rp.octets());
+    header[16..].copy_from_slice(&bsr.octets());
+    with_content(&header, &message)
 }
 
 /// Whether a packet is a report or a Leave of a host, of any version.

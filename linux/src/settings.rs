@@ -16,15 +16,23 @@ use std::fmt;
 use std::net::{Ipv4Addr, SocketAddr};
 use std::path::PathBuf;
 use toml::Spanned;
-use viqeshor::{Choice, OlderHosts, QueryVersion, Range, RpSet};
+use viqeshor::{CandidateBsr, CandidateRp, Choice, OlderHosts, Prefix, QueryVersion, Range, RpSet};
 
 /// Linux has 32 virtual interfaces, and the register tunnel is one.
 pub const MOST_INTERFACES: usize = 31;
 /// It takes no virtual interface.
 pub const LOOPBACK: &str = "lo";
 const MOST_RANGES: usize = 256;
+/// RPs of ranges that a BSR holds.
+const MOST_HELD: u32 = 255;
+/// Ranges of a candidate RP, which one packet tells.
+const MOST_ADVERTISED: usize = 183;
 /// Of a set of RPs that share an address.
 const MOST_OTHERS: usize = 16;
+/// Peers of MSDP, and sources that are kept of one.
+const MOST_PEERS: usize = 64;
+const USUAL_SOURCE_ACTIVES: u32 = 8_192;
+const MOST_SOURCE_ACTIVES: u32 = 1_000_000;
 /// A neighbour, a group of a host, its source, and a Join.
 const LEAST_LIMIT: u32 = 4;
 /// Of a path in sun_path, with the byte behind it.
@@ -198,6 +206,63 @@ pub struct BsrSettings {
     pub choice: Choice,
 }
 
+/// As what a router stands (RFC 5059).
+#[derive(Clone, Debug, Default, PartialEq, Eq)]
+pub struct CandidacySettings {
+    pub bsr: Option<CandidateBsr>,
+    pub rp: Option<CandidateRp>,
+}
+
+impl CandidacySettings {
+    /// What is left of it where the router has these addresses alone; `None` where nothing is.
+    pub fn of_own(&self, is_own: impl Fn(Ipv4Addr) -> bool) -> Option<CandidacySettings> {
+        let bsr = self.bsr.filter(|it| is_own(it.address));
+        let rp = self.rp.clone().filter(|it| is_own(it.address));
+        (bsr.is_some() || rp.is_some()).then_some(CandidacySettings { bsr, rp })
+    }
+
+    /// The address of each role, with its name.
+    pub fn roles(&self) -> impl Iterator<Item = (&'static str, Ipv4Addr)> {
+        let bsr = self.bsr.map(|it| ("candidate BSR", it.address));
+        let rp = self.rp.as_ref().map(|it| ("candidate RP", it.address));
+        bsr.into_iter().chain(rp)
+    }
+
+    /// Whether an RP that stands so says less as other ones: it has another address, or leaves out a range.
+    pub fn says_less(&self, next: Option<&CandidacySettings>) -> bool {
+        let next = next.and_then(|next| next.rp.as_ref());
+        let says_all = |rp: &CandidateRp, next: &CandidateRp| {
+            next.address == rp.address && rp.ranges.iter().all(|range| next.ranges.contains(range))
+        };
+        self.rp.as_ref().map_or(false, |rp| !next.map_or(false, |next| says_all(rp, next)))
+    }
+}
+
+/// A peer of MSDP (RFC 3618).
+#[derive(Clone, Debug, PartialEq, Eq)]
+pub struct MsdpPeer {
+    pub peer: Ipv4Addr,
+    /// The router's own, of the session.
+    pub address: Ipv4Addr,
+    /// The mesh group of which both are members.
+    pub mesh: Option<String>,
+    /// The RPs for which it is the static RPF peer.
+    pub rpf: Vec<Subnet>,
+    /// The most sources that are kept of it.
+    pub max_kept: u32,
+    /// The sources that are taken of it.
+    pub accept: List,
+    /// Those that are told to it.
+    pub tell: List,
+}
+
+impl MsdpPeer {
+    /// The side with the higher address listens.
+    pub fn listens(&self) -> bool {
+        self.address > self.peer
+    }
+}
+
 #[derive(Clone, Debug, PartialEq, Eq)]
 pub struct RouteSettings {
     /// The kernel's table; else the one of the router's domain.
@@ -228,8 +293,12 @@ pub struct Settings {
     pub rps: Vec<RpSettings>,
     /// RPs that share an address.
     pub rp_sets: Vec<RpSet>,
+    /// Other RPs that tell of their sources.
+    pub msdp: Vec<MsdpPeer>,
     /// Bootstraps are heard.
     pub bsr: Option<BsrSettings>,
+    /// It stands as BSR or as RP, where they are heard.
+    pub candidacy: CandidacySettings,
     pub policy: PolicySettings,
     pub routes: RouteSettings,
     pub level: LevelFilter,
@@ -294,7 +363,10 @@ struct File {
     #[serde(default)]
     anycast: Vec<AnycastTable>,
     #[serde(default)]
+    msdp: Vec<MsdpTable>,
+    #[serde(default)]
     bsr: BsrTable,
+    rp_candidate: Option<RpCandidateTable>,
 }
 
 #[derive(Deserialize, Default)]
@@ -304,6 +376,24 @@ struct BsrTable {
     limit: Whole,
     from: Option<Vec<Spanned<String>>>,
     choice: Text,
+    candidate: Option<BsrCandidateTable>,
+}
+
+#[derive(Deserialize)]
+#[serde(deny_unknown_fields)]
+struct BsrCandidateTable {
+    address: Spanned<String>,
+    priority: Whole,
+    hash_length: Whole,
+    limit: Whole,
+}
+
+#[derive(Deserialize)]
+#[serde(deny_unknown_fields)]
+struct RpCandidateTable {
+    address: Spanned<String>,
+    priority: Whole,
+    ranges: Vec<Spanned<String>>,
 }
 
 #[derive(Deserialize, Default)]
@@ -416,6 +506,19 @@ struct AnycastTable {
     shared: Spanned<String>,
     own: Spanned<String>,
     others: Vec<Spanned<String>>,
+}
+
+#[derive(Deserialize)]
+#[serde(deny_unknown_fields)]
+struct MsdpTable {
+    peer: Spanned<String>,
+    address: Spanned<String>,
+    mesh: Text,
+    #[serde(default)]
+    rpf: Vec<Spanned<String>>,
+    max_kept: Whole,
+    accept: Option<Vec<RuleTable>>,
+    tell: Option<Vec<RuleTable>>,
 }
 
 // ---- checked
@@ -705,15 +808,20 @@ impl Check<'_> {
     }
 
     fn rp(&mut self, table: &RpTable) -> Option<RpSettings> {
-        let groups = self.subnet(&table.groups, "the groups");
+        let groups = self.groups_of_rp(&table.groups);
         let address = self.reached(&table.address, "the RP");
-        let (groups, address) = (groups?, address?);
-        if self.are_groups(&table.groups, groups) {
+        Some(RpSettings { groups: groups?, address: address? })
+    }
+
+    /// Groups that may have an RP.
+    fn groups_of_rp(&mut self, given: &Spanned<String>) -> Option<Subnet> {
+        let groups = self.subnet(given, "the groups")?;
+        if self.are_groups(given, groups) {
             if let Some(reason) = without_rp(groups) {
-                self.wrong(table.groups.start(), format!("the groups {groups} {reason}"));
+                self.wrong(given.start(), format!("the groups {groups} {reason}"));
             }
         }
-        Some(RpSettings { groups, address })
+        Some(groups)
     }
 
     /// An address of an RP, which other routers reach.
@@ -765,6 +873,35 @@ impl Check<'_> {
         read.into_iter().filter_map(|(_, set)| set).collect()
     }
 
+    fn msdp_peer(&mut self, table: &MsdpTable) -> Option<MsdpPeer> {
+        let peer = self.reached(&table.peer, "the peer");
+        let address = self.reached(&table.address, "the own address");
+        if peer.is_some() && peer == address {
+            self.wrong(table.peer.start(), "the peer is this router itself".to_string());
+        }
+        let rpf = table.rpf.iter().filter_map(|given| self.subnet(given, "the RPs")).collect();
+        let max_kept = self.within("max_kept", &table.max_kept, USUAL_SOURCE_ACTIVES, 1, MOST_SOURCE_ACTIVES);
+        let (accept, tell) = (self.list(&table.accept, &None), self.list(&table.tell, &None));
+        let mesh = table.mesh.as_ref().map(|name| name.get_ref().clone());
+        Some(MsdpPeer { peer: peer?, address: address?, mesh, rpf, max_kept, accept, tell })
+    }
+
+    fn msdp(&mut self, tables: &[MsdpTable]) -> Vec<MsdpPeer> {
+        if let Some(past) = tables.get(MOST_PEERS) {
+            self.wrong(past.peer.start(), format!("at most {MOST_PEERS} peers have a session"));
+        }
+        let mut peers: Vec<MsdpPeer> = Vec::new();
+        for table in tables {
+            if let Some(peer) = self.msdp_peer(table) {
+                if peers.iter().any(|other| other.peer == peer.peer) {
+                    self.wrong(table.peer.start(), format!("the peer {} is given twice", peer.peer));
+                }
+                peers.push(peer);
+            }
+        }
+        peers
+    }
+
     fn are_groups(&mut self, given: &Spanned<String>, groups: Subnet) -> bool {
         let reason = match groups {
             it if !it.address.is_multicast() || it.length < 4 => "aren't within 224.0.0.0/4",
@@ -798,6 +935,58 @@ impl Check<'_> {
         let from = table.from.as_ref().map(|given| of(self, given));
         let choice = self.one_of("choice", &table.choice, &CHOICES);
         table.listen.unwrap_or(false).then_some(BsrSettings { limit, from, choice })
+    }
+
+    /// An address of a role in which the router stands: one of its own, which other routers reach.
+    fn stands_at(&mut self, given: &Spanned<String>, what: &str, file: &File) -> Option<Ipv4Addr> {
+        if !file.bsr.listen.unwrap_or(false) {
+            self.wrong(given.start(), format!("{what} hears Bootstraps: `listen` of [bsr] is to be true"));
+        }
+        let address = self.reached(given, what)?;
+        let of =
+            |table: &InterfaceTable| table.address.as_ref().and_then(|it| it.get_ref().split('/').next()?.parse().ok());
+        let of_all: Vec<Option<Ipv4Addr>> = file.interface.iter().map(of).collect();
+        // The kernel may have it on an interface of which the file says no address.
+        if of_all.iter().all(Option::is_some) && !of_all.contains(&Some(address)) {
+            self.wrong(given.start(), format!("{what} {address}: no [[interface]] has this address"));
+        }
+        Some(address)
+    }
+
+    fn candidate_bsr(&mut self, file: &File) -> Option<CandidateBsr> {
+        let table = file.bsr.candidate.as_ref()?;
+        let address = self.stands_at(&table.address, "a candidate BSR", file);
+        let usual = CandidateBsr::new(Ipv4Addr::UNSPECIFIED);
+        let priority = self.within("priority", &table.priority, usual.priority, 0, 255);
+        let hash_length = self.within("hash_length", &table.hash_length, usual.hash_length, 0, 32);
+        let limit = self.within("limit", &table.limit, usual.limit, 1, MOST_HELD);
+        address.map(|address| CandidateBsr { address, priority, hash_length, limit })
+    }
+
+    fn candidate_rp(&mut self, file: &File) -> Option<CandidateRp> {
+        let table = file.rp_candidate.as_ref()?;
+        let address = self.stands_at(&table.address, "a candidate RP", file);
+        let mut ranges: Vec<Prefix> = Vec::new();
+        for given in &table.ranges {
+            if let Some(groups) = self.groups_of_rp(given) {
+                let range = Prefix { address: groups.address, length: groups.length.into() };
+                if ranges.contains(&range) {
+                    self.wrong(given.start(), format!("the groups {groups} are given twice"));
+                }
+                ranges.push(range);
+            }
+        }
+        if table.ranges.is_empty() || table.ranges.len() > MOST_ADVERTISED {
+            let reason = format!("a candidate RP has {} ranges; it has 1 to {MOST_ADVERTISED}", table.ranges.len());
+            self.wrong(table.address.start(), reason);
+        }
+        let usual = CandidateRp::new(Ipv4Addr::UNSPECIFIED, &[]).priority;
+        let priority = self.within("priority", &table.priority, usual, 0, 255);
+        address.map(|address| CandidateRp { address, priority, ranges })
+    }
+
+    fn candidacy(&mut self, file: &File) -> CandidacySettings {
+        CandidacySettings { bsr: self.candidate_bsr(file), rp: self.candidate_rp(file) }
     }
 
     fn routes(&mut self, table: &RoutesTable) -> RouteSettings {
@@ -927,7 +1116,9 @@ impl Check<'_> {
             interfaces: self.interfaces(file, &usual),
             rps: self.rps(&file.rp),
             rp_sets: self.rp_sets(&file.anycast),
+            msdp: self.msdp(&file.msdp),
             bsr: self.bsr(&file.bsr),
+            candidacy: self.candidacy(file),
             policy: self.policy_of_none(&file.policy, &usual),
             routes: self.routes(&file.routes),
             level: self.one_of("log", &file.log, &LEVELS),
@@ -1100,6 +1291,58 @@ mod tests {
     }
 
     #[test]
+    fn a_router_stands_as_bsr_and_as_rp() {
+        let own = "address = \"10.0.0.1/24\"\n[bsr]\nlisten = true\n";
+        let rp = |more: &str| format!("[rp_candidate]\naddress = \"10.0.0.1\"\n{more}");
+        let of =
+            |bsr: &str, rp: &str| read(&format!("{SMALL}{own}candidate = {{ {bsr} }}\n{rp}")).map(|it| it.candidacy);
+        let address = Ipv4Addr::new(10, 0, 0, 1);
+        let range = |text: &str| text.parse::<Prefix>().expect("a prefix");
+        let usual = of("address = \"10.0.0.1\"", &rp("ranges = [\"239.0.0.0/8\", \"224.0.0.0/4\"]\n")).unwrap();
+        assert_eq!(usual.bsr, Some(CandidateBsr { address, priority: 0, hash_length: 30, limit: 255 }));
+        let ranges = vec![range("239.0.0.0/8"), range("224.0.0.0/4")];
+        assert_eq!(usual.rp, Some(CandidateRp { address, priority: 192, ranges }));
+        let all = "address = \"10.0.0.1\", priority = 255, hash_length = 0, limit = 1";
+        let rp_of_all = of(all, &rp("priority = 0\nranges = [\"239.0.0.0/8\"]\n")).unwrap();
+        assert_eq!(rp_of_all.bsr, Some(CandidateBsr { address, priority: 255, hash_length: 0, limit: 1 }));
+        assert_eq!(rp_of_all.rp.map(|it| it.priority), Some(0));
+        assert_eq!(read(SMALL).unwrap().candidacy, CandidacySettings::default());
+        let wrong = |bsr: &str, rp: &str| only(&format!("{SMALL}{own}candidate = {{ {bsr} }}\n{rp}")).1;
+        let good = "address = \"10.0.0.1\"";
+        assert_eq!(wrong("address = \"10.0.0.1\", priority = 256", ""), "priority is 256; it is to be 0 to 255");
+        assert_eq!(wrong("address = \"10.0.0.1\", hash_length = 33", ""), "hash_length is 33; it is to be 0 to 32");
+        assert_eq!(wrong("address = \"10.0.0.1\", limit = 0", ""), "limit is 0; it is to be 1 to 255");
+        assert_eq!(wrong("address = \"10.0.0.2\"", ""), "a candidate BSR 10.0.0.2: no [[interface]] has this address");
+        assert_eq!(wrong(good, &rp("ranges = []\n")), "a candidate RP has 0 ranges; it has 1 to 183");
+        let twice = "ranges = [\"239.0.0.0/8\", \"239.0.0.0/8\"]\n";
+        assert_eq!(wrong(good, &rp(twice)), "the groups 239.0.0.0/8 are given twice");
+        let ssm = "the groups 232.1.0.0/16 are of SSM, and have no RP";
+        assert_eq!(wrong(good, &rp("ranges = [\"232.1.0.0/16\"]\n")), ssm);
+        let deaf = format!("{SMALL}[bsr]\ncandidate = {{ {good} }}\n");
+        assert_eq!(only(&deaf), (4, "a candidate BSR hears Bootstraps: `listen` of [bsr] is to be true".to_string()));
+    }
+
+    #[test]
+    fn what_an_rp_no_longer_says_is_less() {
+        let rp = |address: u8, ranges: &[&str]| CandidacySettings {
+            bsr: None,
+            rp: Some(CandidateRp::new(
+                [10, 0, 0, address].into(),
+                &ranges.iter().map(|it| it.parse().expect("a prefix")).collect::<Vec<_>>(),
+            )),
+        };
+        let both = rp(1, &["239.0.0.0/8", "238.0.0.0/8"]);
+        let mut other = both.clone();
+        other.rp.iter_mut().for_each(|it| it.priority = 7);
+        assert!(!both.says_less(Some(&both)) && !both.says_less(Some(&other)));
+        assert!(both.says_less(None) && both.says_less(Some(&rp(1, &["239.0.0.0/8"]))));
+        assert!(both.says_less(Some(&rp(2, &["239.0.0.0/8", "238.0.0.0/8"]))));
+        assert!(!rp(1, &["239.0.0.0/8"]).says_less(Some(&both)) && !CandidacySettings::default().says_less(None));
+        let is_first = |address: Ipv4Addr| address == Ipv4Addr::new(10, 0, 0, 1);
+        assert_eq!((both.of_own(is_first), rp(2, &["239.0.0.0/8"]).of_own(is_first)), (Some(both.clone()), None));
+    }
+
+    #[test]
     fn bootstraps_are_heard() {
         let of = |bsr: &str| read(&format!("{SMALL}bsr_border = true\n[bsr]\n{bsr}"));
         let usual = of("listen = true\n").unwrap();
@@ -1116,6 +1359,43 @@ mod tests {
         assert_eq!(wrong("from = [\"224.0.0.1\"]\n"), (4, "the BSR 224.0.0.1: it is no address of a host".to_string()));
         let reason = "choice is \"hash\"; it is to be \"range\" or \"group\"".to_string();
         assert_eq!(wrong("listen = true\nchoice = \"hash\"\n"), (5, reason));
+    }
+
+    #[test]
+    fn rps_tell_each_other_of_sources() {
+        let of = |tables: &str| format!("{SMALL}{tables}");
+        let peer = |more: &str| format!("[[msdp]]\npeer = \"10.0.0.9\"\naddress = \"10.0.0.2\"\n{more}");
+        let (at, own) = (Ipv4Addr::new(10, 0, 0, 9), Ipv4Addr::new(10, 0, 0, 2));
+        let usual = MsdpPeer {
+            peer: at,
+            address: own,
+            mesh: None,
+            rpf: Vec::new(),
+            max_kept: 8_192,
+            accept: List(None),
+            tell: List(None),
+        };
+        assert_eq!(read(&of(&peer(""))).unwrap().msdp, std::slice::from_ref(&usual));
+        assert!(!usual.listens() && MsdpPeer { peer: own, address: at, ..usual.clone() }.listens());
+        let more =
+            "mesh = \"a\"\nrpf = [\"10.8.0.0/16\"]\nmax_kept = 7\naccept = []\ntell = [{ groups = \"239.0.0.0/8\" }]\n";
+        let all = read(&of(&peer(more))).unwrap().msdp.remove(0);
+        assert_eq!(
+            (all.mesh.as_deref(), all.max_kept, all.rpf[0].to_string()),
+            (Some("a"), 7, "10.8.0.0/16".to_string())
+        );
+        let group = |last: u8| Ipv4Addr::new(last, 1, 1, 1);
+        assert!(all.tell.permits(Some(at), group(239)) && !all.tell.permits(Some(at), group(238)));
+        assert!(!all.accept.permits(Some(at), group(239)));
+        let wrong = |tables: &str| only(&of(tables));
+        let twice = [peer(""), peer("")].concat();
+        assert_eq!(wrong(&twice), (7, "the peer 10.0.0.9 is given twice".to_string()));
+        let itself = peer("").replace("10.0.0.9", "10.0.0.2");
+        assert_eq!(wrong(&itself), (4, "the peer is this router itself".to_string()));
+        assert_eq!(wrong(&peer("max_kept = 0\n")), (6, "max_kept is 0; it is to be 1 to 1000000".to_string()));
+        assert_eq!(wrong(&peer("").replace("10.0.0.9", "224.0.0.9")).0, 4);
+        let many: String = (1..=65).map(|last| peer("").replace("10.0.0.9", &format!("10.0.1.{last}"))).collect();
+        assert_eq!(wrong(&many).1, "at most 64 peers have a session");
     }
 
     #[test]

@@ -4,7 +4,8 @@ pub mod joins;
 mod sheet;
 mod why;
 
-use crate::daemon::{Chosen, Daemon, Rp};
+use crate::counters::by_reason;
+use crate::daemon::{Chosen, Daemon, Peer, Rp};
 use crate::error::Fatal;
 use crate::metrics::{families, Family};
 use crate::older::Version;
@@ -17,7 +18,7 @@ use sheet::Sheet;
 use std::collections::{BTreeMap, BTreeSet, HashMap};
 use std::io::{self, Write};
 use std::net::Ipv4Addr;
-use viqeshor::{GroupRow, LearnedPart, NeighbourRow, OlderRow, Range, SourceRow, UpstreamRow};
+use viqeshor::{GroupRow, NeighbourRow, OlderRow, Range, Role, SourceRow, UpstreamRow};
 
 /// What can be shown.
 #[derive(Clone, Copy, Debug, PartialEq, Eq, ValueEnum)]
@@ -32,8 +33,10 @@ pub enum Topic {
     Igmp,
     /// RPs, and the routes to them
     Rp,
-    /// The bootstrap router, and the RPs that are learned of it
+    /// The bootstrap router, the RPs that are learned of it, and what the router does as a candidate
     Bsr,
+    /// Peers of MSDP, and the sources that they said and that are told to them
+    Msdp,
     /// Interfaces, and why one is down
     Interfaces,
     /// What neighbours have joined
@@ -57,6 +60,7 @@ impl Topic {
             Topic::Igmp => "igmp",
             Topic::Rp => "rp",
             Topic::Bsr => "bsr",
+            Topic::Msdp => "msdp",
             Topic::Interfaces => "interfaces",
             Topic::Joins => "joins",
             Topic::Upstream => "upstream",
@@ -164,6 +168,7 @@ fn rows(daemon: &mut Daemon, asked: &Asked, sheet: &mut Sheet) -> io::Result<()>
         Topic::Neighbors => neighbours(daemon)?,
         Topic::Rp => rp(daemon, asked.addresses.first().copied())?,
         Topic::Bsr => bsr(daemon),
+        Topic::Msdp => msdp(daemon),
         Topic::Interfaces => interfaces(daemon)?,
         Topic::Rpf => joins::rpf(daemon, asked.addresses.first().copied())?,
         Topic::Counters => counters(daemon)?,
@@ -256,28 +261,151 @@ fn rp(daemon: &mut Daemon, of: Option<Ipv4Addr>) -> Result<Rows, Fatal> {
     Ok(ranges.iter().map(row).collect())
 }
 
-/// The elected BSR, the RPs that are learned, and those that wait for other fragments of their message.
-fn bsr(daemon: &mut Daemon) -> Rows {
-    let now = daemon.now();
-    let since = daemon.bsr_since.map_or(Value::Null, |(_, since)| seconds(now.saturating_sub(since)));
-    let row = |what: &str, groups: Value, address: Ipv4Addr, priority: u32, (in_use, end): (Value, u64)| {
+/// A row of what is known of Bootstraps: of the BSR, of an RP, or of a role of the router.
+struct OfBsr {
+    what: &'static str,
+    groups: Option<String>,
+    address: Ipv4Addr,
+    priority: u32,
+    in_use: Option<bool>,
+    /// As candidate BSR.
+    role: Option<&'static str>,
+    /// The BSR that is told of the RP.
+    tells: Option<Ipv4Addr>,
+    end: Option<u64>,
+}
+
+impl OfBsr {
+    fn new(what: &'static str, address: Ipv4Addr, priority: u32, end: Option<u64>) -> OfBsr {
+        OfBsr { what, groups: None, address, priority, in_use: None, role: None, tells: None, end }
+    }
+
+    fn of_range(what: &'static str, range: &Range, priority: u32, end: Option<u64>) -> OfBsr {
+        OfBsr { groups: Some(RpSettings::of(range).groups.to_string()), ..OfBsr::new(what, range.rp, priority, end) }
+    }
+
+    fn cells(&self, daemon: &Daemon) -> Cells {
+        let now = daemon.now();
+        let since =
+            daemon.bsr_since.filter(|_| self.what == "BSR").map(|(_, since)| seconds(now.saturating_sub(since)));
         vec![
-            ("what", json!(what)),
-            ("groups", groups),
-            ("address", json!(address.to_string())),
-            ("priority", json!(priority)),
-            ("in_use", in_use),
-            ("up_seconds", if what == "BSR" { since.clone() } else { Value::Null }),
-            ("expires_seconds", until(Some(end), now)),
+            ("what", json!(self.what)),
+            ("groups", json!(self.groups)),
+            ("address", json!(self.address.to_string())),
+            ("priority", json!(self.priority)),
+            ("in_use", json!(self.in_use)),
+            ("role", json!(self.role)),
+            ("tells", json!(self.tells.map(|bsr| bsr.to_string()))),
+            ("up_seconds", json!(since)),
+            ("expires_seconds", until(self.end, now)),
         ]
+    }
+}
+
+/// The elected BSR, the RPs that are learned, those that wait for other fragments of their message, and what the router
+/// does as a candidate.
+fn bsr(daemon: &mut Daemon) -> Rows {
+    let core = &daemon.core;
+    let mut rows: Vec<_> =
+        core.elected().map(|it| OfBsr::new("BSR", it.bsr, it.priority, Some(it.end))).into_iter().collect();
+    rows.extend(
+        core.learned().iter().map(|it| OfBsr {
+            in_use: Some(it.is_given),
+            ..OfBsr::of_range("RP", &it.range, it.priority, Some(it.end))
+        }),
+    );
+    rows.extend(
+        core.learned_parts()
+            .iter()
+            .map(|it| OfBsr { in_use: Some(false), ..OfBsr::of_range("waits", &it.range, it.priority, Some(it.end)) }),
+    );
+    rows.extend(of_candidacy(daemon));
+    rows.iter().map(|row| row.cells(daemon)).collect()
+}
+
+/// As what the router stands, whom it tells of its RP, and which RPs advertised themselves to it.
+fn of_candidacy(daemon: &Daemon) -> Vec<OfBsr> {
+    let (stands, standing) = match (daemon.core.stands_as(), daemon.core.standing()) {
+        (Some(stands), Some(standing)) => (stands, standing),
+        _ => return Vec::new(),
     };
-    let groups = |range: &Range| json!(RpSettings::of(range).groups.to_string());
-    let elected = daemon.core.elected();
-    let elected = elected.iter().map(|it| row("BSR", Value::Null, it.bsr, it.priority, (Value::Null, it.end)));
-    let (rps, parts) = (daemon.core.learned(), daemon.core.learned_parts());
-    let rps = rps.iter().map(|it| row("RP", groups(&it.range), it.range.rp, it.priority, (json!(it.is_given), it.end)));
-    let waits = |it: &LearnedPart| row("waits", groups(&it.range), it.range.rp, it.priority, (json!(false), it.end));
-    elected.chain(rps).chain(parts.iter().map(waits)).collect()
+    let role = standing.role.map(|role| match role {
+        Role::Candidate => "candidate",
+        Role::Pending => "pending",
+        Role::Elected => "elected",
+    });
+    let as_bsr =
+        stands.bsr.map(|it| OfBsr { role, ..OfBsr::new("candidate BSR", it.address, it.priority, standing.end) });
+    let mut rows: Vec<_> = as_bsr.into_iter().collect();
+    let held = daemon.core.held();
+    rows.extend(held.iter().map(|it| OfBsr::of_range("advertised RP", &it.range, it.priority, Some(it.end))));
+    if let Some(rp) = &stands.rp {
+        rows.extend(rp.ranges.iter().map(|range| OfBsr {
+            tells: standing.told,
+            ..OfBsr::of_range("candidate RP", &Range::of(*range, rp.address), rp.priority, standing.told_end)
+        }));
+    }
+    rows
+}
+
+/// The columns of peers and sources; those of the other are null.
+fn msdp_row(what: &str, told: &[(&'static str, Value)]) -> Cells {
+    const NAMES: [&str; 15] = [
+        "peer",
+        "address",
+        "mesh",
+        "state",
+        "group",
+        "source",
+        "rp",
+        "up_seconds",
+        "expires_seconds",
+        "heard",
+        "sent",
+        "kept",
+        "resets",
+        "not_taken",
+        "why",
+    ];
+    let of = |name| told.iter().find(|(its, _)| *its == name).map_or(Value::Null, |(_, value)| value.clone());
+    std::iter::once(("what", json!(what))).chain(NAMES.into_iter().map(|name| (name, of(name)))).collect()
+}
+
+/// The peers of MSDP, the sources that they said, and those of which the router tells.
+fn msdp(daemon: &Daemon) -> Rows {
+    let now = daemon.now();
+    let peer = |it: &Peer| {
+        let tally = it.tally;
+        let told = [
+            ("peer", json!(it.peer.to_string())),
+            ("address", json!(it.address.to_string())),
+            ("mesh", json!(it.mesh)),
+            ("state", json!(it.state)),
+            ("up_seconds", it.since.map_or(Value::Null, |since| seconds(now.saturating_sub(since)))),
+            ("heard", json!(it.heard)),
+            ("sent", json!(it.sent)),
+            ("kept", json!(it.kept)),
+            ("resets", json!(tally.resets)),
+            ("not_taken", json!(tally.not_rpf + tally.not_permitted + tally.no_room)),
+            ("why", json!(it.why)),
+        ];
+        msdp_row("peer", &told)
+    };
+    let heard = daemon.msdp.cache.entries().map(|(key, rp, entry)| {
+        let told = [
+            ("peer", json!(entry.from.to_string())),
+            ("group", json!(key.group.to_string())),
+            ("source", json!(key.source.to_string())),
+            ("rp", json!(rp.to_string())),
+            ("up_seconds", seconds(now.saturating_sub(entry.since))),
+            ("expires_seconds", until(Some(entry.end), now)),
+        ];
+        msdp_row("heard", &told)
+    });
+    let own = daemon.msdp.own().map(|key| {
+        msdp_row("told", &[("group", json!(key.group.to_string())), ("source", json!(key.source.to_string()))])
+    });
+    daemon.msdp_peers().iter().map(peer).chain(heard).chain(own).collect()
 }
 
 // ---- neighbours, interfaces, IGMP
@@ -422,6 +550,11 @@ pub fn counts(daemon: &Daemon) -> Vec<Count> {
         count(&families::BOOTSTRAP_RPS, daemon.core.learned().len() as u64),
         count(&families::BOOTSTRAP_RANGES, daemon.learned_ranges() as u64),
         count(&families::BOOTSTRAP_CANDIDATES, daemon.core.candidates().len() as u64),
+        count(&families::ADVERTISED_RPS, daemon.core.held().len() as u64),
+        count(&families::ADVERTISEMENTS_TAKEN_TOTAL, it.advertisements_taken),
+        count(&families::ADVERTISEMENTS_LEFT_OUT_TOTAL, it.advertisements_left_out.values().sum()),
+        count(&families::MSDP_OWN_SOURCES, daemon.msdp.own().count() as u64),
+        count(&families::MSDP_STRANGERS_TOTAL, it.msdp_strangers),
         count(&families::OWN_REPORTS_TOTAL, it.own_reports),
         count(&families::UNICASTS_RECEIVED_TOTAL, it.unicasts_heard),
         count(&families::UNICASTS_SENT_TOTAL, it.unicasts_sent),
@@ -449,8 +582,11 @@ fn counters(daemon: &mut Daemon) -> Result<Rows, Fatal> {
     let counts = counts(daemon).into_iter().map(|it| (it.family.counts().to_string(), it.value));
     let refused = daemon.counters.refused.iter();
     let reasons = refused.map(|(number, count)| (format!("refused: {}", viqeshor::answer_text(*number)), *count));
-    let left_out = daemon.counters.left_out();
-    let left_out = left_out.map(|(reason, count)| (format!("Bootstraps that didn't count: {reason}"), count));
+    let left_out = by_reason(&daemon.counters.bootstraps_left_out)
+        .map(|(reason, count)| (format!("Bootstraps that didn't count: {reason}"), count));
+    let untaken = by_reason(&daemon.counters.advertisements_left_out)
+        .map(|(reason, count)| (format!("advertisements of RPs that the router didn't take: {reason}"), count));
+    let left_out = left_out.chain(untaken);
     let all = began.chain(counts).chain(reasons).chain(left_out).chain(daemon.policy.refusals.counts());
     Ok(all.map(|(name, count)| vec![("counter", json!(name)), ("count", json!(count))]).collect())
 }

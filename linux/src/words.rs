@@ -50,6 +50,7 @@ fn pim(bytes: &[u8]) -> Option<String> {
         0x23 => join_prune(bytes),
         0x24 => bootstrap(bytes),
         0x25 => assert(bytes),
+        0x28 => advertisement(bytes),
         other => Some(format!("PIM version {}, type {}", other >> 4, other & 15)),
     }
 }
@@ -65,6 +66,15 @@ fn bootstrap(bytes: &[u8]) -> Option<String> {
     }
     let bsr = (bytes.len() >= RANGES).then(|| address(bytes, 10))?;
     Some(format!("PIM Bootstrap of {bsr}, priority {priority}, with RPs of {}", listed(ranges)))
+}
+
+/// Of RFC 5059, section 4.2: an RP with its ranges.
+fn advertisement(bytes: &[u8]) -> Option<String> {
+    const RANGES: usize = 14;
+    let head = bytes.get(..RANGES)?;
+    let ranges = bytes[RANGES..].chunks_exact(8).map(|range| format!("{}/{}", address(range, 4), range[3])).collect();
+    let (rp, priority, holdtime) = (address(head, 10), head[5], two(head, 6));
+    Some(format!("PIM Candidate-RP-Advertisement of {rp}, priority {priority}, for {holdtime} s: {}", listed(ranges)))
 }
 
 fn star(source: Ipv4Addr) -> String {
@@ -247,6 +257,9 @@ mod tests {
         bootstrap.extend([1, 0, 10, 99, 0, 1, 0, 150, 0, 0, 1, 0, 0, 16, 225, 1, 0, 0, 0, 0, 0, 0]);
         let ranges = "239.0.0.0/8 (1 of 3), 225.1.0.0/16 (0 of 0)";
         assert_eq!(said(PIM, &bootstrap), format!("PIM Bootstrap of 10.9.9.9, priority 10, with RPs of {ranges}"));
+        let advertisement = [0x28, 0, 0, 0, 1, 192, 0, 150, 1, 0, 10, 9, 0, 7, 1, 0, 0, 8, 239, 0, 0, 0];
+        let words = "PIM Candidate-RP-Advertisement of 10.9.0.7, priority 192, for 150 s: 239.0.0.0/8";
+        assert_eq!(said(PIM, &advertisement), words);
     }
 
     #[test]
@@ -266,6 +279,7 @@ mod tests {
     fn what_is_cut_short_is_malformed() {
         assert_eq!(said(PIM, &[0x23, 0, 0, 0, 1, 0, 10, 0, 0, 1, 0, 1, 0, 210]), "protocol 103, malformed");
         assert_eq!(said(PIM, &[0x24, 0, 0, 0, 0, 7, 30, 10, 1, 0, 10, 9, 9]), "protocol 103, malformed");
+        assert_eq!(said(PIM, &[0x28, 0, 0, 0, 1, 192, 0, 150, 1, 0, 10, 9, 0]), "protocol 103, malformed");
         assert_eq!(said(IGMP, &[0x22, 0, 0, 0, 0, 0, 0, 1]), "protocol 2, malformed");
         assert_eq!(said(IGMP, &[0x16, 0, 0, 0, 239, 1, 1]), "protocol 2, malformed");
         assert_eq!(said(IGMP, &[0x11, 100, 0, 0, 0, 0, 0, 0, 2]), "protocol 2, malformed");

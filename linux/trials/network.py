@@ -15,7 +15,7 @@ PLACES = ("source", "first", "second", "router", "hosts", "viewer", "lan", "aske
 # Of a trial of its own.
 MORE_PLACES = ("red-source", "red-host", "blue-source", "blue-host",
                "west-host", "west", "one", "two", "east", "east-host", "bsr", "heard", "heard-host",
-               "behind", "behind-host")
+               "behind", "behind-host", "own-rp", "frr-rp")
 NAMES = {place: f"vq-{place}-{os.getpid()}" for place in (*PLACES, *MORE_PLACES)}
 LINKS = [
     ("source", "10.1.0.50/24", "first", "10.1.0.1/24"),
@@ -123,12 +123,24 @@ def used_for(process: int, act: Callable[[], object]) -> float:
     return now - before
 
 
+def of_frr(root: Path | None, path: str) -> list[object]:
+    """A program of FRR's, of this machine or of the root folder of another release of Debian: with its libraries."""
+    if root is None:
+        return [Path("/") / path]
+    libraries = root / "usr" / "lib" / "x86_64-linux-gnu"
+    loader = root / "usr" / "lib64" / "ld-linux-x86-64.so.2"
+    return [loader, "--library-path", f"{libraries}:{libraries / 'frr'}", root / path]
+
+
 class Network:
     """The namespaces, and what runs in them."""
 
-    def __init__(self, built: Path, room: Path, is_logged: bool) -> None:
+    def __init__(self, built: Path, room: Path, is_logged: bool, frr_root: Path | None = None) -> None:
         self.built, self.room, self.is_logged = built, room, is_logged
         self.running, self.router, self.pimd = [], None, {}
+        # Where another FRR is, and the places that have it.
+        self.frr_root: Path | None = frr_root
+        self.roots: dict[str, Path | None] = {}
         # The router's socket for those that ask.
         self.control = room / "router" / "control"
 
@@ -181,10 +193,10 @@ class Network:
 
     # ---- routers
 
-    def start_frr(self, place: str) -> None:
+    def start_frr(self, place: str, has_rps: bool = True) -> None:
         room = self.room / place
         room.mkdir(exist_ok=True)
-        rps = "".join(f"ip pim rp {address} {groups}\n" for groups, address in RPS)
+        rps = "".join(f"ip pim rp {address} {groups}\n" for groups, address in RPS if has_rps)
         logs = "".join(f"{line}\n" for line in (f"log file {room / 'pimd.log'}", *DEBUGS))
         (room / "pimd.conf").write_text(PIMD[place] + rps + (logs if self.is_logged else ""))
         (room / "zebra.conf").write_text("")
@@ -208,10 +220,13 @@ class Network:
         room = self.room / place
         words = ["-z", room / "zserv", "--vty_socket", room, "-f", room / f"{daemon}.conf",
                  "-i", room / f"{daemon}.pid"]
-        return self.start(place, FRR / daemon, *words, stdout=subprocess.DEVNULL, stderr=subprocess.DEVNULL)
+        program = of_frr(self.roots.get(place), f"usr/lib/frr/{daemon}")
+        return self.start(place, *program, *words, stdout=subprocess.DEVNULL, stderr=subprocess.DEVNULL)
 
-    def frr(self, place: str, command: str) -> str:
-        words = inside(place, "vtysh", "--vty_socket", self.room / place, "-c", command)
+    def frr(self, place: str, *commands: str) -> str:
+        each = [word for command in commands for word in ("-c", command.strip())]
+        vtysh = of_frr(self.roots.get(place), "usr/bin/vtysh")
+        words = inside(place, *vtysh, "--vty_socket", self.room / place, *each)
         return subprocess.run(words, capture_output=True, text=True).stdout
 
     def start_router(self, more: str = "", policy: str = "", environment: Iterable[str] = ()) -> None:

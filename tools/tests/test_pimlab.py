@@ -34,6 +34,13 @@ def printed(path):
     return ran(playing(), "run", path, *tables), (int(status), lines, told)
 
 
+def counted_anew(line, moves, frames):
+    """A line of a run that begins so many moves and frames later."""
+    kind, number, *rest = line.split(b" ", 2)
+    later = {b"move": moves, b"frame": frames}.get(kind)
+    return line if later is None else b" ".join([kind, b"%d" % (int(number) - later), *rest])
+
+
 class Stored(unittest.TestCase):
     def test_stored_scenarios_print_their_lines(self):
         paths = sorted(stored.DATA.glob("*.toml"))
@@ -93,6 +100,27 @@ class Called(unittest.TestCase):
             self.assertEqual(said, (0, wanted, b""))
             self.assertEqual(Path(last).read_bytes(), Path(whole).read_bytes())
             self.assertNotEqual(Path(first).read_bytes(), Path(whole).read_bytes())
+
+    def test_what_a_listener_knows_goes_on(self):
+        """The same of a router that learned RPs: the second part, without its listener's setting, is begun where a
+        fragment of a message waits for the other, and a message of a less preferred BSR comes."""
+        text = (stored.DATA / "bsr_over_a_restart.toml").read_text()
+        before, after = (stored.DATA / "bsr_over_a_restart.out").read_bytes().split(b"move 9 r1 done\n")
+        head, moves = text[:text.index("move = [")], text[text.index("move = ["):].splitlines(keepends=True)
+        starts = [at for at, line in enumerate(moves) if line.startswith("  {")]
+        first = head + "".join(moves[:starts[8]]) + "]\n"
+        second = head.replace(", bsr = true", "") + moves[0] + "".join(moves[starts[9]:])
+        with tempfile.TemporaryDirectory() as room:
+            done = called("run", "-", "--save", f"r1={room}/r1", input=first.encode())
+            self.assertEqual(done, (0, before, b""))
+            status, said, told = called("run", "-", "--tables", "--from", f"r1={room}/r1", input=second.encode())
+            later = [counted_anew(line, 9, before.count(b"\nframe ")) for line in after.splitlines()]
+            self.assertEqual((status, said.splitlines(), told), (0, later, b""))
+            data = Path(room, "r1").read_bytes()
+            for at, number in ((12, 60), (17, 61), (40, 69)):
+                Path(room, "r1").write_bytes(data[:at] + b"x" + data[at + 1:])
+                said = called("run", "-", "--from", f"r1={room}/r1", input=second.encode())
+                self.assertEqual(said, (2, b"", b"pimlab: saved state refused: %d\n" % number))
 
     def test_saved_states_that_are_refused(self):
         run = ("run", stored.DATA / "to_the_shortest_path_tree.toml")

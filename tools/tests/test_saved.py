@@ -106,6 +106,35 @@ class Saved(unittest.TestCase):
                 saved.read(given)
             self.assertEqual(caught.exception.number, number)
 
+    def test_a_listener(self):
+        # 10.9.9.9 is elected till 130,001 ms, and 10.99.0.1 of 239.0.0.0/8 is in force.
+        known = saved.summed(b"VIQB\0\1" + bytes.fromhex(
+            "0000000000000000" "0000000000000100" "01 0a090909 40 000000000001fbd1" "01" "000000000000ea60"
+            "0000000000000001 ef00000000000008 1e 0a630001 05 00000000000249f1" "0000000000000000"
+            "0000000000000002 beef" "00000000000003e9"))
+
+        def behind(known, router=self.data):
+            return b"VIQL" + len(known).to_bytes(8, "big") + known + router
+
+        state = saved.read(behind(known))
+        self.assertEqual(state.listener.rps, [("239.0.0.0", 8, 30, "10.99.0.1", 5, 150_001)])
+        self.assertEqual([line for line in saved.lines(state) if line.startswith("listener")], [
+            "listener range 256", "listener-elected 10.9.9.9 64 130001", "listener-heard 1 60000",
+            "listener-rp 239.0.0.0 8 30 10.99.0.1 5 150001", "listener-last beef 1001"])
+        self.assertEqual((state.present, saved.read(self.data).listener), (1000, None))
+        for given, number in (
+            (b"VIQL", 62),
+            (behind(known)[:40], 62),
+            (behind(b"x" + known[1:]), 60),
+            (behind(known[:5] + b"\3" + known[6:]), 61),
+            (behind(known[:-1] + b"x"), 69),
+            (behind(saved.summed(known[:-4] + b"x")), 65),
+            (behind(known, self.data[1:]), 60),
+        ):
+            with self.assertRaises(saved.Unreadable) as caught:
+                saved.read(given)
+            self.assertEqual(caught.exception.number, number)
+
     def test_the_tool(self):
         with tempfile.TemporaryDirectory() as room:
             path = Path(room) / "state"

@@ -17,8 +17,8 @@ the end no block is left. Without files the stored scenarios are played, the sma
 Then come the calls of a listener for Bootstraps, in random runs and in the trials of `torture/run bootstraps`, as many
 as begin in N seconds more: each call is made once for each of its allocations, which is refused, and then with none
 refused. It answers VIQ_MEMORY, and nothing has changed, or VIQ_LOST, and the listener is as it was; what comes then has
-to be what the reading of RFC 5059 says. A message that doesn't count takes no memory. The exit status is 1 where
-anything else came.
+to be what the reading of RFC 5059 says. A message that doesn't count takes no memory. Last come those of candidacies,
+in the same way, in random runs of `torture/run elections`. The exit status is 1 where anything else came.
 """
 import argparse
 import re
@@ -30,7 +30,7 @@ from pathlib import Path
 from typing import Any
 
 from pimtext.build.library import add_choice, chosen
-from stress import listeners
+from stress import candidacies, listeners
 from stress.plane import refusing
 from stress.stored import STORED, Stored, routers
 from viqeshor.lab import fed, story
@@ -128,4 +128,5 @@ def is_right(asked: argparse.Namespace) -> bool:
     print(f"{sums['lost']} routers lost, {sums['unchanged']} calls that changed nothing and {sums['without']} done "
           f"without, in runs of {sums['routers']} routers of {scenarios} scenarios, {sums['other']} with another "
           "outcome")
-    return listeners.is_right(refusing(library), asked.seconds) and not sums["other"]
+    fronts = [front.is_right(refusing(library), asked.seconds) for front in (listeners, candidacies)]
+    return all(fronts) and not sums["other"]

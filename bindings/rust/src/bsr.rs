@@ -7,7 +7,7 @@ use std::net::Ipv4Addr;
 use std::ptr::{null_mut, NonNull};
 
 /// The latest timestamp of an event, in ms.
-const LAST_MOMENT: u64 = 1 << 62;
+pub(crate) const LAST_MOMENT: u64 = 1 << 62;
 
 /// What an RP is chosen for, of several that a learned range has.
 #[derive(Clone, Copy, Debug, PartialEq, Eq)]
@@ -67,18 +67,29 @@ pub struct LearnedPart {
     pub end: u64,
 }
 
-/// What became of a packet that a listener heard.
+/// What became of a packet that a listener or a candidacy heard.
 #[derive(Clone, Copy, Debug, PartialEq, Eq)]
 pub enum Heard {
     /// It is no Bootstrap.
     Other,
     /// It doesn't count: `OwnBsr`, `NoNeighbour`, `Scoped`, `LateRefresh`, `NotFromRpf` or `NotPreferred`.
     Ignored(Reason),
-    /// It counts, and is sent on.
+    /// It counts, and is sent on; or a candidate BSR sends it on without taking what it says, or answers it.
     Taken {
         /// The router is to be given other RPs.
         moved: bool,
     },
+}
+
+impl Heard {
+    /// By the number that the library answers.
+    pub(crate) fn of(answer: u32, moved: bool) -> Result<Heard, Error> {
+        match verdict(answer)? {
+            Verdict::Done => Ok(Heard::Taken { moved }),
+            Verdict::Ignored(Reason::OtherType) => Ok(Heard::Other),
+            Verdict::Ignored(reason) => Ok(Heard::Ignored(reason)),
+        }
+    }
 }
 
 /// A listener, which hears Bootstraps before a [`Router`] and says which RPs the router is to have: those of the configured
@@ -107,7 +118,7 @@ impl fmt::Debug for Bsr {
 }
 
 /// The packets that are to be sent, one by one.
-fn send_all(router: &mut Router, send: &mut impl FnMut(Target, &[u8])) {
+pub(crate) fn send_all(router: &mut Router, send: &mut impl FnMut(Target, &[u8])) {
     let mut room = [0; MOST_BYTES];
     while let Some((target, bytes)) = router.take(&mut room) {
         send(target, bytes);
@@ -115,7 +126,7 @@ fn send_all(router: &mut Router, send: &mut impl FnMut(Target, &[u8])) {
 }
 
 /// The sooner of two timestamps.
-fn sooner(one: Option<u64>, other: Option<u64>) -> Option<u64> {
+pub(crate) fn sooner(one: Option<u64>, other: Option<u64>) -> Option<u64> {
     one.into_iter().chain(other).min()
 }
 
@@ -262,7 +273,7 @@ impl Bsr {
         Ok(verdict)
     }
 
-    fn give_if(
+    pub(crate) fn give_if(
         &self,
         moved: bool,
         router: &mut Router,
@@ -313,11 +324,7 @@ impl Bsr {
         // length.
         let answer =
             unsafe { viq_bsr_hear(self.at_mut(), router.at_mut(), iface, packet.as_ptr(), packet.len(), &mut moved) };
-        match verdict(answer)? {
-            Verdict::Done => Ok(Heard::Taken { moved }),
-            Verdict::Ignored(Reason::OtherType) => Ok(Heard::Other),
-            Verdict::Ignored(reason) => Ok(Heard::Ignored(reason)),
-        }
+        Heard::of(answer, moved)
     }
 
     /// An event of the router: its ranges are replaced by those that the listener has for it, or its candidates where an RP
@@ -450,7 +457,11 @@ impl Bsr {
         offered.iter().map(|rp| Candidate::new(rp.range, rp.priority, rp.hash_length)).collect()
     }
 
-    fn at_mut(&mut self) -> *mut c_void {
+    pub(crate) fn at(&self) -> *const c_void {
+        self.at.as_ptr()
+    }
+
+    pub(crate) fn at_mut(&mut self) -> *mut c_void {
         self.at.as_ptr()
     }
 }

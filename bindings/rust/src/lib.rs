@@ -30,22 +30,26 @@ use std::ptr::{null_mut, NonNull};
 use std::str::FromStr;
 
 mod bsr;
+mod candidacy;
 mod record;
 mod rows;
+mod sources;
 mod trees;
 
 pub use bsr::{Bsr, Choice, Elected, Heard, LearnedPart, LearnedRp};
+pub use candidacy::{Candidacy, CandidateBsr, CandidateRp, HeldRp, Role, Standing};
 pub use record::Call;
 pub use rows::{
     ActiveRow, AssertRow, DownstreamRow, DownstreamState, GroupRow, NeighbourRow, RegisterState, Row, RptRow,
     SourceRow, TableRow, UpstreamRow,
 };
+pub use sources::SourceActive;
 pub use trees::{Hop, LanDelay, Link, Neighbour, Path, Querier, Querying, Rpf, RptState, SourceTree, Tree};
 
 /// The most bytes that a packet has.
 pub const MOST_BYTES: usize = 1528;
 /// What this crate and the library have to agree on: `VIQ_ABI` of `viqeshor.h`.
-pub const ABI: u32 = 12;
+pub const ABI: u32 = 13;
 
 const DONE: u32 = 0;
 const MEMORY: u32 = 40;
@@ -476,6 +480,8 @@ numbered! {
         NotFromRpf = 113,
         /// The Bootstrap's BSR has less weight than the elected one.
         NotPreferred = 114,
+        /// The router isn't the elected BSR.
+        NotElected = 115,
     }
 }
 

@@ -1,6 +1,6 @@
 -- Which rows count.
-use Rattle.std.{proofs.{Common.{◌≡◌, ◌∙◌, ℕ, Bool, true, false, not, cond, nat_lt, [], ◌∷◌, filter, Option, Some, None, refl, sym, ap, arith}, lemmas.Bool.Decides.nat_tests}}
-use Rattle.pim_types.{specs.{Keys.{group_in, iface_in, same_key, star_key}, declared.fact.{GroupRecordRow.GroupRecordRow, Key.Key}}, proofs.Keys.equal_keys}
+use Rattle.std.proofs.{Common.{◌≡◌, ◌∙◌, ℕ, Bool, true, false, not, cond, nat_lt, [], ◌∷◌, None, refl, ap, arith}, lemmas.Bool.Decides.nat_tests}
+use Rattle.pim_types.{specs.{Keys.{same_key, star_key}, declared.fact.{GroupRecordRow.GroupRecordRow, Key.Key}}, proofs.Keys.equal_keys}
 use Rattle.pim_model.{specs.Tables.{Table, drop_where, has_row, row_at}}
 use Rattle.law_settled.{proofs.RowLaws.row_kept}
 use Rattle.igmp_older.{specs.{Modes.{is_three, mode_of, nobody}, Presence.{has_record, live_rows, mode_at, row_or_nobody, timers_at}, declared.mode.{Mode.Mode, PresentRow.PresentRow}}}

@@ -1,12 +1,12 @@
 -- Queries of version 2.
-use Rattle.std.{proofs.{Common.{◌≡◌, ◌∙◌, ℕ, ◌+◌, ◌-◌, ◌<◌, ◌≤◌, ◌^◌, Bool, true, false, cond, not, min, ◌&&◌, ◌||◌, ◌==◌, nat_le, nat_lt, IsTrue, List, [], ◌∷◌, ◌++◌, length, get_or, Option, Some, None, option_map, Result, Ok, Err, refl, ap, sym, subst, arith, lit≤, lit<, eqb-true, All}, lemmas.{Bool.Decides.nat_tests, List.{append-nil, length-append}}}}
+use Rattle.std.proofs.{Common.{◌≡◌, ◌∙◌, ℕ, ◌+◌, ◌-◌, ◌<◌, ◌≤◌, ◌^◌, Bool, true, false, cond, ◌&&◌, ◌||◌, ◌==◌, nat_le, nat_lt, List, [], ◌∷◌, ◌++◌, length, get_or, Option, Some, None, option_map, Result, Ok, Err, refl, ap, sym, subst, arith, lit≤, lit<, eqb-true, All}, lemmas.{Bool.Decides.nat_tests, List.{append-nil, length-append}}}
 use Rattle.byteorder.{specs.{Endian.{big_bytes, big_from}, Numbers.big_number-reads_back}}
 use Rattle.pim_ip.{specs.{Addr.addr, Checksum.{sum16, with_checksum}, Ipv4.{Packet, frame_limit, header_text, igmp_packet_text, ipv4_reading, is_multicast, is_source, packet_of, protocol_igmp, router_alert}, View.{ReadsAs, written_packet}, declared.refusal.Refusal.Refusal}, proofs.{ChecksumLemmas.sum16-with_checksum, ViewLemmas.written_reads}}
 use Rattle.igmp_wire.{specs.{Codes.code_value, Messages.igmp_reading, Queries.query_text, Values.Query, declared.view.IgmpView.IgmpView}, proofs.RoundTrip.query_reads}
 use Rattle.pim_types.{specs.{Keys.iface_key, declared.{config.IfaceId.IfaceId, fact.QuerierRow.QuerierRow}}}
-use Rattle.pim_model.{specs.{Judging.{frame_judged, igmp_judged, igmp_message_judged, packet_judged}, Querier.{is_lower_querier, lower_group, lower_queried, query_end, querier_elected, querier_on, query_seen}, State.{State, iface_count, is_own, is_up}, Tables.{put, row_at}, declared.accepted.Accepted.Accepted}}
+use Rattle.pim_model.specs.{Judging.{frame_judged, igmp_judged, igmp_message_judged, packet_judged}, Querier.{is_lower_querier, lower_group, lower_queried, query_end, querier_elected, querier_on, query_seen}, State.{State, iface_count, is_own, is_up}, declared.accepted.Accepted.Accepted}
 use Rattle.law_settled.{proofs.{RowLaws.row_put, ReadPackets.{packet_is, passed}}}
-use Rattle.igmp_older.{specs.{Routers.{OlderQueried, cut_text, older_query_reading, older_query_text, packet_queried, queried, query_as_three, query_packet, reading_queried}, declared.router.OlderQuery.OlderQuery}}
+use Rattle.igmp_older.specs.{Routers.{OlderQueried, older_query_reading, older_query_text, packet_queried, queried, query_as_three, query_packet, reading_queried}, declared.router.OlderQuery.OlderQuery}
 
 pub length-as_three : (q : OlderQuery) → length (query_text (query_as_three q)) ≡ 12
 unfolding query_text with_checksum

@@ -1,6 +1,5 @@
 -- Rows of which there are some, or none.
 use Rattle.std.{proofs.{Common.{◌≡◌, ◌∙◌, ℕ, Bool, true, false, eqb, List, [], ◌∷◌, ◌++◌, length, refl, sym, arith}, lemmas.Bool.eqb-true}}
-use Rattle.pim_types.{specs.declared.fact.Key.Key}
 use Rattle.pim_model.{specs.Tables.Table}
 use Rattle.igmp_older_saved.{specs.{declared.host.HostRow.HostRow, Text.{hosts_text, summed, text_with}}}
 

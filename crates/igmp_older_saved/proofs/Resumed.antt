@@ -1,11 +1,11 @@
 -- What is saved of older hosts passes all tests, and is resumed.
-use Rattle.std.{proofs.{Common.{◌≡◌, ◌∙◌, ℕ, ◌-◌, Bool, true, false, cond, nat_le, nat_lt, ◌&&◌, List, [], ◌∷◌, ◌++◌, filter, map, Option, Some, None, unwrap_or, Result, Ok, Err, IfOk, refl, sym, ap, subst, append_assoc, arith}, lemmas.{Bool.Decides.nat_tests, List.append-nil}}, specs.{Cmp.{first_so, second_so}, List.{AllByRecursion, list_all, Sorted.IsStrictlySortedBy}, Ordering.ordering_reverse, declared.cmp.Ordering.Ordering}}
-use Rattle.pim_types.{specs.{Keys.key_cmp, declared.fact.{GroupRecordRow.GroupRecordRow, Key.Key}}, proofs.Keys.key_cmp_total}
-use Rattle.pim_model.{specs.{State.State, Tables.{Table, keys_in, put}}}
-use Rattle.law_settled.{specs.Ready.Rises, proofs.{ListLaws.{each_passes, list_of_each}, RisingKeys.{IsBelow, Up, sorted_of_up, up_filter, up_of_sorted}}}
-use Rattle.pim_worlds.{specs.{Resuming.{IsResumable, resume_test}, declared.refusal.RestoreRefusal.RestoreRefusal}, proofs.RestedTests.resumable_is_decided}
-use Rattle.igmp_older.{specs.{Modes.running, Presence.put_rows, declared.mode.PresentRow.PresentRow}, proofs.Put.put_rising}
-use Rattle.igmp_older_saved.{specs.{declared.host.HostRow.HostRow, Hosts.{are_held, entry_resumed, entry_told, host_told, is_ahead, is_held, is_running, longest_interval, resumed_row, resumed_rows, saved_hosts}, Laws.{HostsAreResumed, SavedHostsAreHeld}, Reading.{held_test, test_behind}}}
+use Rattle.std.{proofs.{Common.{◌≡◌, ◌∙◌, ℕ, ◌-◌, Bool, true, false, nat_le, nat_lt, ◌&&◌, List, [], ◌∷◌, filter, map, Option, Some, None, unwrap_or, Result, Ok, Err, IfOk, refl, sym, ap, subst, arith}, lemmas.Bool.Decides.nat_tests}, specs.{Cmp.{first_so, second_so}, List.{AllByRecursion, list_all, Sorted.IsStrictlySortedBy}}}
+use Rattle.pim_types.specs.{Keys.key_cmp, declared.fact.{GroupRecordRow.GroupRecordRow, Key.Key}}
+use Rattle.pim_model.specs.Tables.{Table, keys_in}
+use Rattle.law_settled.{specs.Ready.Rises, proofs.{ListLaws.{each_passes, list_of_each}, RisingKeys.{sorted_of_up, up_filter, up_of_sorted}}}
+use Rattle.pim_worlds.{specs.{Resuming.resume_test, declared.refusal.RestoreRefusal.RestoreRefusal}, proofs.RestedTests.resumable_is_decided}
+use Rattle.igmp_older.{specs.{Modes.running, declared.mode.PresentRow.PresentRow}, proofs.Put.put_rising}
+use Rattle.igmp_older_saved.specs.{declared.host.HostRow.HostRow, Hosts.{entry_resumed, entry_told, host_told, is_ahead, is_held, is_running, longest_interval, resumed_row, resumed_rows, saved_hosts}, Laws.{HostsAreResumed, SavedHostsAreHeld}, Reading.test_behind}
 
 all_held : (groups : Table GroupRecordRow) (now : ℕ) (rows : Table PresentRow)
     → list_all (is_held groups now) (saved_hosts groups now rows) ≡ true

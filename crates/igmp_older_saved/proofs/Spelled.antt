@@ -1,9 +1,9 @@
 -- Rows of older hosts in front of a router's bytes: spelled by their text, and by no other.
-use Rattle.std.{proofs.{Common.{◌≡◌, ◌∙◌, ℕ, ◌+◌, ◌-◌, ◌^◌, ◌<◌, ◌≤◌, Bool, true, false, cond, eqb, List, [], ◌∷◌, ◌++◌, length, take, drop, get_or, Option, Result, Ok, Err, refl, sym, ap, subst, append_assoc, arith, inl, inr}, lemmas.{Bool.{cases_lt, eqb-true}, List.{append-nil, get_or-drop, get_or-take, get_or_past, length-append, length-drop, length-take, take-append-drop}}}, specs.List.Sorted.IsStrictlySortedBy}
+use Rattle.std.{proofs.{Common.{◌≡◌, ◌∙◌, ℕ, ◌+◌, ◌-◌, Bool, true, false, cond, eqb, List, [], ◌∷◌, ◌++◌, length, take, drop, get_or, Option, Result, Ok, Err, refl, sym, ap, subst, append_assoc, arith, inl, inr}, lemmas.{Bool.{cases_lt, eqb-true}, List.{append-nil, get_or-drop, get_or-take, get_or_past, length-append, length-drop, length-take, take-append-drop}}}, specs.List.Sorted.IsStrictlySortedBy}
 use Rattle.pim_types.{specs.declared.fact.Key.Key}
 use Rattle.pim_model.{specs.{State.State, Tables.{Table, keys_in}}}
-use Rattle.pim_saved.{specs.{declared.refusal.SavedRefusal.SavedRefusal, Crc.crc32, Fits.{FitsState, FitsTable}, Laws.AreBytes, Reading.{◌>>=◌, reading, table_at, undamaged, word_at}, Text.{body_text, front_text, magic, table_text, text, word_text}}, proofs.{Spelled.{IsSpelled, Takes, bind_ok, both, made_of, ok_is, passed, word}, SpelledRows.end, SpelledStates.{reading_is_text, table, text_is_read}, Summed.{front_of, is_summed, sum_fits}}}
-use Rattle.igmp_older_saved.{specs.{declared.{host.HostRow.HostRow, refusal.HeldRefusal.HeldRefusal}, Laws.{HeldReadingIsText, HeldTextIsRead}, Reading.{before_sum, held_in, held_reading, host_at, hosts_at, is_tag, is_tagged, opened, some_hosts, state_behind}, Text.{Held, FitsHeld, FitsHost, held_text, host_text, hosts_text, summed, tag, text_with}}}
+use Rattle.pim_saved.{specs.{declared.refusal.SavedRefusal.SavedRefusal, Crc.crc32, Fits.FitsTable, Laws.AreBytes, Reading.{◌>>=◌, reading, table_at, undamaged, word_at}, Text.{body_text, front_text, magic, table_text, text, word_text}}, proofs.{Spelled.{IsSpelled, bind_ok, both, made_of, ok_is, passed, word}, SpelledRows.end, SpelledStates.{reading_is_text, table, text_is_read}, Summed.{front_of, is_summed}}}
+use Rattle.igmp_older_saved.specs.{declared.host.HostRow.HostRow, Laws.{HeldReadingIsText, HeldTextIsRead}, Reading.{before_sum, held_in, host_at, hosts_at, is_tag, is_tagged, opened, some_hosts, state_behind}, Text.{Held, FitsHeld, FitsHost, held_text, host_text, hosts_text, summed, tag, text_with}}
 
 host : IsSpelled FitsHost host_text host_at
 unfolding host_text host_at

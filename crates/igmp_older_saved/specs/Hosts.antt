@@ -1,5 +1,5 @@
 -- Which groups of older hosts are saved with a router's state, and what becomes of them.
-use Rattle.std.{specs.{List.list_all, Prelude.{ℕ, Bool, true, false, not, ◌&&◌, ◌||◌, ◌*◌, ◌+◌, ◌-◌, filter, is_none, is_some, map, nat_le, nat_lt, unwrap_or, Option, Some, None}}}
+use Rattle.std.specs.{List.list_all, Prelude.{ℕ, Bool, true, not, ◌&&◌, ◌||◌, ◌*◌, ◌+◌, ◌-◌, filter, is_none, is_some, map, nat_le, nat_lt, unwrap_or, Option, Some, None}}
 use Rattle.pim_types.{specs.{Keys.group_in, declared.fact.{GroupRecordRow.GroupRecordRow, Key.Key}}}
 use Rattle.pim_model.{specs.{State.State, Tables.Table}}
 use Rattle.igmp_older.{specs.{Modes.running, Older.is_served, Presence.has_record, declared.mode.PresentRow.PresentRow}}

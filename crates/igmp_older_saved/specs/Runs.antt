@@ -1,5 +1,5 @@
 -- A host of IGMPv1 that is saved and resumed, computed by the kernel. Worked by hand from RFC 3376, section 7.3.2.
-use Rattle.std.{specs.Prelude.{◌≡◌, ℕ, List, [], ◌∷◌, Some, None}}
+use Rattle.std.specs.Prelude.{◌≡◌, [], ◌∷◌, Some, None}
 use Rattle.pim_types.{specs.{Keys.star_key, declared.fact.GroupRecordRow.GroupRecordRow}}
 use Rattle.pim_model.{specs.Tables.Table}
 use Rattle.igmp_older.{specs.{Presence.{mode_at, put_rows}, declared.mode.{Mode.Mode, PresentRow.PresentRow}}}

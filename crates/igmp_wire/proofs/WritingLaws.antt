@@ -1,5 +1,5 @@
 -- What is written one after the other.
-use Rattle.std.{proofs.{Common.{◌≡◌, ℕ, ◌+◌, ◌<◌, ◌≤◌, List, ◌++◌, length, take, drop, get_or, map, flat_map, All, Result, Ok, Err, OnOk, OnErr, sym, ◌∙◌, refl, arith}, lemmas.List.{Elements.All-push, append_assoc, length-append, take-take, take_at, drop_at, map_more, flat_map_more}}}
+use Rattle.std.proofs.{Common.{◌≡◌, ℕ, ◌+◌, ◌<◌, ◌≤◌, List, ◌++◌, length, take, drop, get_or, map, All, Result, Ok, Err, OnOk, OnErr, sym, ◌∙◌, refl, arith}, lemmas.List.{Elements.All-push, append_assoc, length-append, take-take, take_at, drop_at, map_more}}
 use Rattle.igmp_wire.{specs.Written.{BeginsWith, summed}}
 
 -- what stood before still does

@@ -4,5 +4,6 @@ pub mod Learning
 pub mod Wires
 pub mod Queries
 pub mod Settling
+pub mod Standing
 pub mod Stations
 pub mod Troubles

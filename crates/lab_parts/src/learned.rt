@@ -2,7 +2,8 @@
 ghost use Rattle.lab_parts.specs.Learning.{known_with, learning_of};
 ghost use Rattle.std.specs.Prelude.{◌≡◌, IfOk};
 
-use pim_bsr::{Elected, Heard, Learned, Listener, Part, Why};
+use pim_bsr::{Choice, Elected, Learned, Listener, Part, Why};
+use pim_candidate::CandidacyHeard;
 use pim_scenario::FrontText;
 use pim_types::{Addr, Config, Prefix, Refusal, RpRange, Series};
 use std::alloc::{AllocError, Global};
@@ -18,6 +19,8 @@ pub struct Learning {
     pub limit: u32,
     /// The configured RP ranges.
     pub ranges: Series<RpRange>,
+    /// What an RP is chosen for.
+    pub choice: Choice,
 }
 
 impl Learning {
@@ -35,6 +38,7 @@ impl Learning {
         Ok(Some(Learning {
             limit: text.rp_limit,
             ranges: Series::from_vec(config.rps.as_slice().to_vec(alloc)?),
+            choice: text.choice,
         }))
     }
 
@@ -42,22 +46,24 @@ impl Learning {
     pub fn listener(self, alloc: Global) -> Listener
         ensures { result ≡ known_with self }
     {
-        Listener::new(
-            alloc,
-            self.limit as usize,
-            self.ranges.into_vec(),
-            REFRESH_END,
-        )
+        let Learning {
+            limit,
+            ranges,
+            choice,
+        } = self;
+        let mut listener = Listener::new(alloc, limit as usize, ranges.into_vec(), REFRESH_END);
+        listener.choose(choice);
+        listener
     }
 }
 
-/// A move by which a packet came that a listener heard.
+/// A move by which a packet came that a listener heard, or a candidate beside it.
 #[derive(Clone, Copy)]
 pub struct HeardLine<'a> {
     /// The moves are counted from 1.
     pub number: usize,
     pub router: &'a str,
-    pub heard: Heard,
+    pub heard: CandidacyHeard,
 }
 
 impl fmt::Display for HeardLine<'_> {
@@ -69,18 +75,22 @@ impl fmt::Display for HeardLine<'_> {
     }
 }
 
-// What became of a packet that a listener heard.
+// What became of such a packet.
 #[derive(Clone, Copy)]
-struct Answered(Heard);
+struct Answered(CandidacyHeard);
 
 impl fmt::Display for Answered {
     fn fmt<W: fmt::Write>(&self, f: &mut fmt::Formatter<W>) -> fmt::Result {
         match self.0 {
-            Heard::Taken(_) => f.write_str("done"),
-            Heard::Other => f.write_str("ignored OtherType"),
-            Heard::Ignored(Why::NoRoom) => write_refused(f, Refusal::Full),
-            Heard::Ignored(why) => write!(f, "ignored {why:?}"),
-            Heard::Refused(refusal) => write_refused(f, refusal),
+            CandidacyHeard::Taken(_)
+            | CandidacyHeard::PassedOn
+            | CandidacyHeard::Answered(_)
+            | CandidacyHeard::Advertised => f.write_str("done"),
+            CandidacyHeard::Other => f.write_str("ignored OtherType"),
+            CandidacyHeard::NotElected => f.write_str("ignored NotElected"),
+            CandidacyHeard::Ignored(Why::NoRoom) => write_refused(f, Refusal::Full),
+            CandidacyHeard::Ignored(why) => write!(f, "ignored {why:?}"),
+            CandidacyHeard::Refused(refusal) => write_refused(f, refusal),
         }
     }
 }

@@ -1,19 +1,22 @@
 //! The routers of a scenario, as they are printed and found.
 ghost use Rattle.lab_parts.specs.Learning.{new_listener};
 ghost use Rattle.lab_parts.specs.Queries.{bytes_heard, hears_queries, kind_heard};
+ghost use Rattle.lab_parts.specs.Standing.{standing_as};
 ghost use Rattle.lab_parts.specs.Stations.{nobody_behind, own_addresses};
 ghost use Rattle.pim_guard.specs.Guard.{is_stopped};
-ghost use Rattle.std.specs.Prelude.{◌≡◌, IfOk, map};
+ghost use Rattle.std.specs.Prelude.{◌≡◌, ◌^◌, ◌≤◌, IfOk, OnOk, map};
 
 use crate::learned::{HeardLine, Learning};
 use crate::line::{BadSetsLine, GuardedLine, MoveLine, PacketLine, Way};
+use crate::standing::{candidacy_of, is_same_rp, is_same_standing};
 use igmp_older::{
     OlderHosts, Presence, PresentRow, QueryVersion, ResponseTimes, cut_query, translate_query,
 };
 use pim_anycast::Anycast;
-use pim_bsr::{Heard, Listener};
+use pim_bsr::{Choice, Listener};
+use pim_candidate::{Candidacy, CandidacyHeard};
 use pim_guard::{stops_frame, stops_unicast};
-use pim_scenario::{FrontText, Link};
+use pim_scenario::{FrontText, Link, StandingText};
 use pim_types::{Addr, Config, Emission, Event, EventKind, IfaceId, Key, Refusal, Series, Verdict};
 use std::alloc::{AllocError, Global};
 
@@ -25,6 +28,20 @@ pub struct Fronts {
     pub anycast: Anycast,
     /// The listener for Bootstraps, if there is one.
     pub learning: Option<Learning>,
+    /// As what the router stands beside it.
+    pub standing: StandingText,
+}
+
+/// What a router is owed once another configuration is kept.
+#[derive(Clone, Copy, PartialEq, Eq, Debug)]
+pub enum Owed {
+    Nothing,
+    /// The RPs that its listener gives it.
+    Rps,
+    /// The same, and then what another choice gave it is taken back.
+    Choice,
+    /// No candidates any more: its listener, which gave it some, is gone.
+    NoCandidates,
 }
 
 /// What the lab knows of another configuration.
@@ -74,6 +91,9 @@ pub struct Station {
     pub anycast: Anycast,
     /// The listener for Bootstraps, if they are heard.
     pub listener: Option<Listener>,
+    /// The router as a BSR and as an RP. Where it stands as neither this changes nothing.
+    pub candidacy: Candidacy,
+    standing: StandingText,
     /// The version in which the router queries.
     pub version: QueryVersion,
     /// Whether a guard stands before the router.
@@ -95,14 +115,17 @@ impl Station {
         ensures presence { IfOk result (λ station. station.presence ≡ nobody_behind config.now fronts.text.older_hosts) }
         ensures sets { IfOk result (λ station. station.anycast ≡ fronts.anycast) }
         ensures listener { IfOk result (λ station. station.listener ≡ new_listener fronts.learning) }
+        ensures candidacy { IfOk result (λ station. station.candidacy ≡ standing_as fronts.standing 0) }
     {
         let addresses = addresses_of(alloc, config)?;
         let Fronts {
             text,
             anycast,
             learning,
+            standing,
         } = fronts;
         let presence = presence_of(alloc, config, text.older_hosts)?;
+        let candidacy = candidacy_of(alloc, &standing, 0)?;
         Ok(Station {
             name,
             links,
@@ -110,6 +133,8 @@ impl Station {
             presence,
             anycast,
             listener: new_listener(alloc, learning),
+            candidacy,
+            standing,
             version: text.query_version,
             guard: text.guard,
             times: times_of(config),
@@ -118,8 +143,16 @@ impl Station {
 
     /// Puts the router's interfaces on other links, and its front under another configuration. What the front heard goes
     /// with its interface; what it heard on interfaces that are removed, or that get another setting, is forgotten. What
-    /// a listener learned stays where Bootstraps are still heard.
-    pub fn reload(&mut self, alloc: Global, reloaded: Reloaded) -> Result<(), AllocError> {
+    /// a listener learned stays where Bootstraps are still heard. A router that stands as something else begins so at the
+    /// timestamp, in ms.
+    pub fn reload(
+        &mut self,
+        alloc: Global,
+        reloaded: Reloaded,
+        moment: u64,
+    ) -> Result<Owed, AllocError>
+        requires { moment ≤ 2 ^ 62 }
+    {
         let Reloaded {
             links,
             addresses,
@@ -132,8 +165,10 @@ impl Station {
             text,
             anycast,
             learning,
+            standing,
         } = fronts;
         let count = u32::try_from(links.len()).map_err(|_| AllocError)?;
+        self.stand_as(alloc, standing, moment)?;
         if places.is_empty() {
             self.presence.resize(limit as usize, count)?;
         } else {
@@ -142,23 +177,58 @@ impl Station {
         }
         set_hosts(&mut self.presence, count, text.older_hosts);
         self.anycast = anycast;
-        self.listen(alloc, learning);
+        let owed = self.listen(alloc, learning);
         self.version = text.query_version;
         self.guard = text.guard;
         self.times = times;
         self.links = links;
         self.addresses = addresses;
-        Ok(())
+        Ok(owed)
     }
 
     // Has a listener with these settings: that which is there, with what it learned, or a new one.
-    fn listen(&mut self, alloc: Global, learning: Option<Learning>) {
+    fn listen(&mut self, alloc: Global, learning: Option<Learning>) -> Owed {
         match (&mut self.listener, learning) {
-            (Some(listener), Some(Learning { limit, ranges })) => {
-                listener.configure(limit as usize, ranges.into_vec());
+            (Some(listener), Some(learning)) => set_listener(listener, learning),
+            (former, learning) => {
+                let owed = owed_without(former.as_ref());
+                self.listener = new_listener(alloc, learning);
+                owed
             }
-            (_, learning) => self.listener = new_listener(alloc, learning),
         }
+    }
+
+    // Stands as something else from a timestamp on, in ms, or goes on where it is the same.
+    fn stand_as(
+        &mut self,
+        alloc: Global,
+        standing: StandingText,
+        moment: u64,
+    ) -> Result<(), AllocError>
+        requires { moment ≤ 2 ^ 62 }
+    {
+        if is_same_standing(&self.standing, &standing) {
+            return Ok(());
+        }
+        self.standing = standing;
+        self.stand(alloc, moment)
+    }
+
+    /// Begins anew, at a timestamp in ms, to stand as what it stands.
+    pub fn stand(&mut self, alloc: Global, moment: u64) -> Result<(), AllocError>
+        requires { moment ≤ 2 ^ 62 }
+        ensures { OnOk result (self.new.candidacy ≡ standing_as self.old.standing moment) }
+    {
+        self.candidacy = candidacy_of(alloc, &self.standing, moment)?;
+        Ok(())
+    }
+
+    /// Whether it is the same candidate RP by another configuration.
+    pub fn stays_rp(&self, reloaded: &Reloaded) -> bool {
+        is_same_rp(
+            self.standing.rp.as_ref(),
+            reloaded.fronts.standing.rp.as_ref(),
+        )
     }
 
     /// Puts rows of older hosts that were saved into the router's front, as if it were new: it keeps what it hears of them.
@@ -289,8 +359,8 @@ impl Station {
         }
     }
 
-    /// A move by which a packet came that the router's listener heard.
-    pub fn heard_line(&self, number: usize, heard: Heard) -> HeardLine<'_> {
+    /// A move by which a packet came that the router's listener heard, or the candidate beside it.
+    pub fn heard_line(&self, number: usize, heard: CandidacyHeard) -> HeardLine<'_> {
         HeardLine {
             number,
             router: self.name.as_str(),
@@ -356,6 +426,31 @@ fn new_listener(alloc: Global, learning: Option<Learning>) -> Option<Listener>
     match learning {
         Some(learning) => Some(learning.listener(alloc)),
         None => None,
+    }
+}
+
+// Puts a listener under other settings.
+fn set_listener(listener: &mut Listener, learning: Learning) -> Owed {
+    let Learning {
+        limit,
+        ranges,
+        choice,
+    } = learning;
+    let loses = listener.loses_beside(limit as usize, ranges.as_slice());
+    let is_same = listener.choice() == choice;
+    listener.configure(limit as usize, ranges.into_vec());
+    listener.choose(choice);
+    if !is_same {
+        return Owed::Choice;
+    }
+    if loses { Owed::Rps } else { Owed::Nothing }
+}
+
+// What a router is owed whose listener goes.
+fn owed_without(former: Option<&Listener>) -> Owed {
+    match former {
+        Some(listener) if listener.choice() == Choice::Group => Owed::NoCandidates,
+        _ => Owed::Nothing,
     }
 }
 

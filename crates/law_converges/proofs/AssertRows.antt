@@ -1,9 +1,9 @@
 -- The row of an assert: what leaves it as it is.
-use Rattle.std.{proofs.{Common.{if◌then◌else◌, ◌≡◌, ◌∙◌, ℕ, ◌&&◌, not, Bool, true, false, cond, List, [], ◌∷◌, filter, Option, is_some, Some, None, refl, sym, ap, subst, arith}}}
-use Rattle.pim_types.{specs.{Keys.{is_on, same_key}, declared.{fact.{AssertMetric.AssertMetric, AssertRow.AssertRow, Key.Key}, timer.TimerKind.TimerKind}}, proofs.Keys.{equal_keys}}
-use Rattle.pim_wire.{specs.{Values.{Encapsulated, Null}, declared.{hello.Hello.Hello as HelloValue}}}
-use Rattle.pim_model.{specs.{declared.accepted.Accepted.Accepted, Asserts.{could_assert_at, assert_as_loser, assert_as_winner, assert_at, assert_due, assert_forgotten, assert_in_no_info, data_seen, loses, loses_first, wins, wins_again, with_spt_bit}, Downstream.{asserts_after_joins, is_named, joined_keys, downstream_expired, keys_taken, to_me}, Firing.{fire_row, fired, keepalive_due}, Forwarding.{forwarded, list_chosen, source_here, source_joined, spt_updated, stray}, Hellos.{hello_due, hello_received, hello_triggered, is_generation_changed, is_lost_to, neighbour_due, neighbour_replaced, neighbour_restarted}, Messages.Message, Querier.{general_query_due, group_record_due, group_repeat_due, other_querier_gone, querier_up, querying, querying_on, source_record_due, source_repeat_due, sources_sent}, Records.{with_members, with_repeats_of_rows}, Registers.{register_due, register_stop_seen}, Sets.{is_loser, is_winner}, State.{State}, Step.{change, iface_down, iface_up, rps_replaced}, Tables.{Table, has_row, row_at}, Upstream.{join_timer_due, override_timer_due}}}
-use Rattle.law_settled.{proofs.{ListLaws.{by_cond}, RowLaws.{row_change_away, row_drop_away, row_kept, row_put_away}}}
+use Rattle.std.{proofs.{Common.{if◌then◌else◌, ◌≡◌, ◌∙◌, ℕ, ◌&&◌, ◌||◌, ◌==◌, not, Bool, true, false, cond, List, [], ◌∷◌, ◌++◌, append-nil, filter, Option, is_some, Some, None, refl, sym, ap, subst, arith}}}
+use Rattle.pim_types.{specs.{Keys.{is_on, same_key, source_key, star_key}, declared.{fact.{AssertMetric.AssertMetric, AssertRow.AssertRow, Key.Key}, timer.TimerKind.TimerKind}}, proofs.Keys.{equal_keys}}
+use Rattle.pim_wire.{specs.{Values.{Encapsulated, Null}, declared.{assert.Assert.Assert as AssertMessage, hello.Hello.Hello as HelloValue}}}
+use Rattle.pim_model.{specs.{declared.accepted.Accepted.Accepted, Asserts.{could_assert_at, assert_as_loser, assert_as_winner, assert_at, assert_due, assert_forgotten, assert_in_no_info, assert_received, data_seen, loses, loses_first, theirs_of, wins, wins_again, with_spt_bit}, Downstream.{asserts_after_joins, is_named, joined_keys, downstream_expired, keys_taken, to_me}, Firing.{fire_row, fired, keepalive_due}, Forwarding.{forwarded, list_chosen, source_here, source_joined, spt_updated, stray}, Hellos.{hello_due, hello_received, hello_triggered, is_generation_changed, is_lost_to, neighbour_due, neighbour_replaced, neighbour_restarted}, Messages.Message, Querier.{general_query_due, group_record_due, group_repeat_due, other_querier_gone, querier_up, querying, querying_on, source_record_due, source_repeat_due, sources_sent}, Records.{with_members, with_repeats_of_rows}, Registers.{register_due, register_stop_seen}, Sets.{is_loser, is_winner}, State.{State}, Step.{change, iface_down, iface_up, rps_replaced}, Tables.{Table, has_row, row_at}, Upstream.{join_timer_due, override_timer_due}}}
+use Rattle.law_settled.{proofs.{ListLaws.{by_cond}, RowLaws.{row_change_away, row_drop_away, row_kept, row_put, row_put_away}}}
 use Rattle.law_streams.{proofs.{LiesUnder.row_fires, Taken.apart_keys}}
 use Rattle.law_states.{proofs.AssertEnds.{Read, here_read, joined_read, pending_read, query_read, read, register_read, report_read, seen_read, updated_read, watched_read}}
 
@@ -16,6 +16,52 @@ pub assert_by_row : (s : State) (k : Key) (theirs : AssertMetric) (o : Option As
     → assert_at s k theirs ≡ assert_of s k theirs o
 unfolding assert_at
 assert_by_row s k theirs o is = ap (assert_of s k theirs) is
+
+-- ---- an Assert that is received
+
+module _ (P : State × List Message → Type 0) (s : State) (theirs : AssertMetric) where
+  -- a machine without information before and after is as it was
+  no_info : (j : Key) → has_row s.asserts j ≡ false → has_row (assert_at s j theirs).0.asserts j ≡ false → assert_at s j theirs ≡ (s, [])
+  unfolding assert_at assert_in_no_info wins loses_first loses with_spt_bit has_row
+  no_info j before after = grind (arith, row_put)
+
+  more : (p : State × List Message) → P p → P (p.0, p.1 ++ [])
+  more p f = subst (λ (ms : List Message). P (p.0, ms)) (sym (append-nil p.1)) f
+
+  -- one of a source may go on to the group
+  module _ (j q : Key) (none : Bool) (unread : P (s, [])) (at_source : none ≡ false → P (assert_at s j theirs)) where
+    abbrev then_of : State × List Message → Bool → State × List Message
+    then_of p on = let x : State × List Message = cond on (assert_at p.0 q theirs) (p.0, []) in (x.0, p.1 ++ x.1)
+
+    abbrev is_silent : State → Bool
+    is_silent t = not (has_row s.asserts j) && not (has_row t.asserts j)
+
+    goes_on : (b : Bool) → is_silent (assert_at s j theirs).0 ≡ b → P (assert_at s j theirs) → P (assert_at s q theirs) → P (then_of (assert_at s j theirs) b)
+    goes_on false e first second = more (assert_at s j theirs) first
+    goes_on true e first second =
+        subst (λ (p : State × List Message). P (then_of p true)) (sym (no_info j (first_false _ _ e) (second_false (has_row s.asserts j) _ e))) second
+      where
+        first_false : (a b : Bool) → (not a && not b) ≡ true → a ≡ false
+        first_false a b h = grind arith
+
+        second_false : (a b : Bool) → (not a && not b) ≡ true → b ≡ false
+        second_false a b h = grind arith
+
+    by_parts : (rpt b : Bool) → none ≡ b → (rpt ≡ true → P (assert_at s q theirs))
+        → P (then_of (cond b (s, []) (assert_at s j theirs)) (rpt && (b || is_silent (cond b (s, []) (assert_at s j theirs)).0)))
+    by_parts true true is at_group = at_group refl
+    by_parts false true is at_group = unread
+    by_parts false false is at_group = more (assert_at s j theirs) (at_source is)
+    by_parts true false is at_group = goes_on (is_silent (assert_at s j theirs).0) refl (at_source is) (at_group refl)
+
+-- what holds if no machine reads an Assert, if that of the source does, and if that of the group does, holds once it is received
+pub received_by : (P : State × List Message → Type 0) (s : State) (i from : ℕ) (a : AssertMessage) → P (s, [])
+    → ((a.source.bits == 0) ≡ false → P (assert_at s (source_key i a.group.bits a.source.bits) (theirs_of a from)))
+    → (a.rpt ≡ true → P (assert_at s (star_key i a.group.bits) (theirs_of a from))) → P (assert_received s i from a)
+unfolding assert_received
+received_by P s i from a unread at_source at_group =
+    by_parts P s (theirs_of a from) (source_key i a.group.bits a.source.bits) (star_key i a.group.bits) (a.source.bits == 0) unread at_source
+    a.rpt (a.source.bits == 0) refl at_group
 
 -- ---- rows that pass a filter
 

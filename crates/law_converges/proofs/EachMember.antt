@@ -3,7 +3,7 @@ use Rattle.std.{proofs.Common.{Bool, List, Some, [], ap, arith, eq-eqb, eqb-true
 use Rattle.pim_types.{specs.Keys.source_key}
 use Rattle.pim_model.{specs.{Network.{Move, Network, Station, moved, station_at}, Receivers.local_receiver_exclude, Sets.{assert_source, assert_star, is_loser, prunes}, State.iface_count, Tables.row_at}}
 use Rattle.law_streams.{proofs.Pairs.same_station, specs.InTimeJoins.{Star, Wants}}
-use Rattle.law_converges.{proofs.{AloneOnLink.{members_then, nothing_else}, CarriedNetwork.one_lan, CarriedWays.{HopStands, HopsStand, stand_later}, MemberLinks.{IsOpenTo, ReachesHosts, among, not_lost, once, unlost_past, wanted}, Past.{both_past, later_past, same_past, throughout_past}, RoutedWays.tree_past, RoutesToRp.{AreJoined, all_meet, are_joined, routes_lead_to_rp, within}, Unheard.{HasState, none_lost_past, none_pruned_past}}, specs.{AloneOnLink.AreMembers, Carried.{Arrivals, Traffic}, CarriedNetwork.{HopOn, IsOneLan, IsQuietPlan, Lan, LanIsQuiet, Plan, number_of}, CarriedWays.AreOnTree, EachMember.{AreApart, EachMemberIsServed, HopIsFree, IsIncluded, IsReached, IsServed, NoneBeaten, TakesOnTree}, JoinedWays.a_hop, LinkDr.{IsOne, Member, Stands}, Past.HoldsPast, RoutedWays.{AreFree, IsFree, TakesIn}, RoutesToRp.{AllCanJoin, AreRouted, AreRpf, HasWayUp, LeadsUp, NoneLost, NoneLostOn, RoutesLead, Routing, WantsFrom}, Settles.routers, Unheard.HearsNone}}
+use Rattle.law_converges.{proofs.{AloneOnLink.{members_then, nothing_else}, CarriedNetwork.one_lan, CarriedWays.{HopStands, HopsStand, stand_later}, MemberLinks.{IsOpenTo, ReachesHosts, among, not_lost, once, unlost_past, wanted}, Past.{both_past, later_past, same_past, throughout_past}, RoutedWays.tree_past, RoutesToRp.{AreJoined, all_meet, are_joined, routes_lead_to_rp, within}, Unheard.{HasState, none_lost_past, none_pruned_past}}, specs.{AloneOnLink.AreMembers, Carried.{Arrivals, Traffic}, CarriedNetwork.{HopOn, IsOneLan, IsQuietPlan, Lan, LanIsQuiet, Plan, number_of}, CarriedWays.AreOnTree, EachMember.{AreApart, EachMemberIsServed, HopIsFree, IsIncluded, IsReached, IsServed, NoneBeaten, TakesOnTree}, JoinedWays.a_hop, LinkDr.{IsOne, Member, Stands}, Past.HoldsPast, RoutedWays.{AreFree, IsFree, TakesIn}, RoutesToRp.{AllCanJoin, AreRouted, AreRpf, HasWayUp, LeadsUp, NoneLost, NoneLostOn, RoutesLead, Routing, WantsFrom}, Settles.routers, Unheard.HearsNoBetter}}
 
 -- ---- whoever is on a link stays one of its routers, with one interface
 
@@ -111,7 +111,7 @@ module _ (g src rp d late lag bound limit k : ℕ) (started : ℕ → ℕ) (t : 
   NotPruned y = HasState (λ s. prunes s g src y.iface ≡ false) y.router
 
   not_lost_past : (b : Lan) (y : Member) → IsOneLan plan.lans b → IsOne (routers b.link) y
-      → HearsNone (source_key y.iface g src) bound started y.router n ms → Later (NotLost y)
+      → HearsNoBetter (source_key y.iface g src) bound started y.router n ms → Later (NotLost y)
   not_lost_past b y is one f =
       sooner (NotLost y) (none_lost_past (source_key y.iface g src) bound started y.router n ms (((lan_of b is).meet).ready y one) f)
 
@@ -126,7 +126,7 @@ module _ (g src rp d late lag bound limit k : ℕ) (started : ℕ → ℕ) (t : 
         single = λ i linked. single_on started limit (number_of c.lan) (routers (c.lan).link) n c.upper (lan_of c.lan s.among).single (s.on).upper v
             (u.0).station (u.0).there i linked;
       })
-      (pair (NotLost c.upper) (NotPruned c.upper) (not_lost_past c.lan c.upper s.among (s.on).upper f.unheard)
+      (pair (NotLost c.upper) (NotPruned c.upper) (not_lost_past c.lan c.upper s.among (s.on).upper f.unlost)
       (sooner (NotPruned c.upper)
       (none_pruned_past g src bound started c.upper n ms (((lan_of c.lan s.among).meet).ready c.upper (s.on).upper) f.unpruned)))
       (on_link c.lan s.among)
@@ -195,7 +195,7 @@ module _ (g src rp d late lag bound limit k : ℕ) (started : ℕ → ℕ) (t : 
       (pair (TakesOnTree g src h.lower) (Stands (number_of h.lan) h.lower) ((o.free).0).takes
       (stands_past h.lan h.lower ((stand).1).among (((stand).1).on).lower))
       (pair (λ n. NotLost x n × IsIncluded g src x n) (λ n. Stands (number_of a) x n × AreMembers (number_of a) (routers a.link) n)
-      (pair (NotLost x) (IsIncluded g src x) (not_lost_past a x (o.serves).among its_iface o.unheard) o.included)
+      (pair (NotLost x) (IsIncluded g src x) (not_lost_past a x (o.serves).among its_iface o.unlost) o.included)
       (pair (Stands (number_of a) x) (AreMembers (number_of a) (routers a.link)) (stands_past a x (o.serves).among its_iface)
       (on_link a (o.serves).among)))
 

@@ -1,10 +1,10 @@
--- The premises are those of the members' links and of the routes, and that no Assert comes, and no Prune of the source.
+-- The premises are those of the members' links and of the routes, and that no better Assert comes, and no Prune of the source.
 use Rattle.std.{proofs.Common.{Bool, List, [], arith, inl, inr, lit≤, refl, suc, true, zero, ℕ, ◌&&◌, ◌<◌, ◌≡◌}, specs.Cmp.{first_so, second_so}}
 use Rattle.pim_types.{specs.Keys.{source_key, star_key}}
 use Rattle.pim_model.{specs.Network.{Move, Network}}
 use Rattle.law_streams.{specs.Joins.join_packet}
 use Rattle.pim_runs.{proofs.OnLiterals.machine_on_literals, specs.{Base.rp, InTime.started, ServedChain.asked_group}}
-use Rattle.law_converges.{proofs.{AloneOnLink.each_move_more, EachMember.each_member_is_served, MemberLinksRun.{are_unheard, keys_of, low_serves, no_others_send, own_serves, own_unheard, served_plan_is_quiet}, MemberTests.{heard_none, included_at, included_so, tree_at, tree_so}, RoutesToRpRun.{none_there, routes_lead_on_plan}, WayTests.{past_run, past_run_so}}, specs.{AloneOnLink.ComesDownTheWay, Carried.EachMove, CarriedNetwork.{IsOneLan, Lan}, CarriedNetworkRun.{before, bound, claim, far_source, farther_on_high, farther_on_low, high_lan, lag, limit, low_lan, moves, nearer_on_high, nearer_on_low, none_came, plan, rp_on_high, soon, star, traffic}, CarriedWaysRun.its_hop, EachMember.{HopIsFree, IsIncluded, NoneBeaten, TakesOnTree}, EachMemberRun.{BothAreReached, BothAreServed, NothingElseComesToBoth}, LinkDr.Member, MemberLinks.{Undisputed, Winner}, MemberLinksRun.{farther_on_own, other_hop, own_lan, served_plan}, Past.{ArePast, HoldsPast}, RoutesToRp.RoutesLead, RoutesToRpRun.routing, Unheard.HearsNone}}
+use Rattle.law_converges.{proofs.{AloneOnLink.each_move_more, EachMember.each_member_is_served, MemberLinksRun.{are_unbeaten, keys_of, low_serves, no_others_send, own_serves, own_unbeaten, served_plan_is_quiet}, MemberTests.{hears_none_better, included_at, included_so, tree_at, tree_so}, RoutesToRpRun.{none_there, routes_lead_on_plan}, WayTests.{past_run, past_run_so}}, specs.{AloneOnLink.ComesDownTheWay, Carried.EachMove, CarriedNetwork.{IsOneLan, Lan}, CarriedNetworkRun.{before, bound, far_source, farther_on_high, high_lan, lag, limit, low_lan, moves, nearer_on_high, nearer_on_low, none_came, plan, rp_on_high, soon, star, traffic}, CarriedWaysRun.its_hop, EachMember.{HopIsFree, IsIncluded, NoneBeaten, TakesOnTree}, EachMemberRun.{BothAreReached, BothAreServed, NothingElseComesToBoth}, LinkDr.Member, MemberLinks.NoneBetter, MemberLinksRun.{farther_on_own, other_hop, own_lan, served_plan}, Past.{ArePast, HoldsPast}, RoutesToRp.RoutesLead, RoutesToRpRun.routing, Unheard.HearsNoBetter}}
 
 -- ---- one link more
 
@@ -29,20 +29,20 @@ lead_over n ms f = record {
   };
 }
 
-beaten_of : (n : Network) (ms : List Move) → HearsNone (star_key 1 asked_group) bound started 0 n ms
-    → HearsNone (star_key 1 asked_group) bound started 1 n ms → HearsNone (star_key 0 asked_group) bound started 2 n ms
+beaten_of : (n : Network) (ms : List Move) → HearsNoBetter (star_key 1 asked_group) bound started 0 n ms
+    → HearsNoBetter (star_key 1 asked_group) bound started 1 n ms → HearsNoBetter (star_key 0 asked_group) bound started 2 n ms
     → NoneBeaten asked_group bound started routing n ms
-beaten_of n ms f g h zero k e = (Undisputed f, Undisputed h)
-beaten_of n ms f g h (suc zero) k e = (Undisputed g, Undisputed h)
+beaten_of n ms f g h zero k e = (NoneBetter f, NoneBetter h)
+beaten_of n ms f g h (suc zero) k e = (NoneBetter g, NoneBetter h)
 beaten_of n ms f g h (suc (suc zero)) k e = none_there k e
 beaten_of n ms f g h (suc (suc (suc r))) k e = cc e
 
 none_beaten : NoneBeaten asked_group bound started routing before moves
 none_beaten =
     beaten_of before moves
-    (heard_none bound started 0 (keys_of 0) before moves (are_unheard).nearer (star_key 1 asked_group) (inl refl) (lit≤ tt))
-    (heard_none bound started 1 (keys_of 1) before moves (are_unheard).farther (star_key 1 asked_group) (inl refl) (lit≤ tt))
-    (heard_none bound started 2 (keys_of 2) before moves (are_unheard).at_rp (star_key 0 asked_group) (inl refl) (lit≤ tt))
+    (hears_none_better bound started 0 (keys_of 0) before moves (are_unbeaten).nearer (star_key 1 asked_group) (inr (inl refl)) (lit≤ tt))
+    (hears_none_better bound started 1 (keys_of 1) before moves (are_unbeaten).farther (star_key 1 asked_group) (inl refl) (lit≤ tt))
+    (hears_none_better bound started 2 (keys_of 2) before moves (are_unbeaten).at_rp (star_key 0 asked_group) (inl refl) (lit≤ tt))
 
 -- ---- past the limit
 
@@ -85,8 +85,8 @@ hop_free : (c : Member) → HoldsPast started limit (TakesOnTree asked_group far
     → HopIsFree asked_group far_source bound limit started before moves (record { lan = high_lan; lower = c; upper = rp_on_high })
 hop_free c takes = record {
   takes = takes;
-  unheard = heard_none bound started 2 (keys_of 2) before moves (are_unheard).at_rp (source_key 0 asked_group far_source) (inr (inl refl)) (lit≤ tt);
-  unpruned = (are_unheard).pruned;
+  unlost = hears_none_better bound started 2 (keys_of 2) before moves (are_unbeaten).at_rp (source_key 0 asked_group far_source) (inr (inl refl)) (lit≤ tt);
+  unpruned = (are_unbeaten).pruned;
 }
 
 -- ---- both are served
@@ -100,8 +100,10 @@ both_are_reached = (
     next_hops = refl;
     apart = (refl, tt);
     by = lit≤ tt;
-    unbeaten = Winner claim farther_on_low (inl refl) refl refl refl (inl refl);
-    unheard = heard_none bound started 0 (keys_of 0) before moves (are_unheard).nearer (source_key 0 asked_group far_source) (inr (inl refl)) (lit≤ tt);
+    unbeaten = NoneBetter
+        (hears_none_better bound started 0 (keys_of 0) before moves (are_unbeaten).nearer (star_key 0 asked_group) (inl refl) (lit≤ tt));
+    unlost = hears_none_better bound started 0 (keys_of 0) before moves (are_unbeaten).nearer (source_key 0 asked_group far_source) (inr (inr (inl refl)))
+        (lit≤ tt);
     included = they_serve nearer_on_low (λ n e. first_so (serves_at nearer_on_low n) (serves_at farther_on_own n) e);
     free = (
       hop_free nearer_on_high
@@ -115,8 +117,8 @@ both_are_reached = (
     next_hops = refl;
     apart = (refl, tt);
     by = lit≤ tt;
-    unbeaten = Undisputed own_unheard;
-    unheard = heard_none bound started 1 (keys_of 1) before moves (are_unheard).farther (source_key 2 asked_group far_source) (inr (inr (inl refl)))
+    unbeaten = NoneBetter own_unbeaten;
+    unlost = hears_none_better bound started 1 (keys_of 1) before moves (are_unbeaten).farther (source_key 2 asked_group far_source) (inr (inr (inl refl)))
         (lit≤ tt);
     included = they_serve farther_on_own (λ n e. second_so (serves_at nearer_on_low n) (serves_at farther_on_own n) e);
     free = (

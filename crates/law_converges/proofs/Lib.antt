@@ -9,12 +9,15 @@ pub mod QueryRead
 pub mod QuerierClock
 pub mod LinkQuerier
 pub mod LeftGroups
+pub mod LeftLinks
+pub mod LeftLinksRun
 pub mod LeftGroupRun
 pub mod LinkDrRun
 pub mod LinkQuerierRun
 pub mod LinkMembers
 pub mod LinkMembersRun
 pub mod LinkAsserts
+pub mod Asserting
 pub mod AssertRows
 pub mod KeptLosses
 pub mod WinnerClock
@@ -24,6 +27,7 @@ pub mod OneSender
 pub mod OneSenderRun
 pub mod LinkLosersRun
 pub mod LinkAssertsRun
+pub mod AssertingRun
 pub mod LinkJoins
 pub mod JoinClock
 pub mod JoinedWays
@@ -40,6 +44,7 @@ pub mod OneCopy
 pub mod ComesOnce
 pub mod NothingElse
 pub mod CarriedLinks
+pub mod TwoWinners
 pub mod CarriedJoins
 pub mod CarriedPrunes
 pub mod Settles
@@ -55,6 +60,7 @@ pub mod RoutesToRp
 pub mod RoutedWays
 pub mod EachMember
 pub mod CarriedNetworkRun
+pub mod TwoWinnersRun
 pub mod Tested
 pub mod HelloTests
 pub mod QueryTests

@@ -31,25 +31,29 @@ drop_either j k rows = go (same_key j k) refl
     go true same = inl (subst (λ (x : Key). row_at (drop_at rows x) k ≡ None) (sym (equal_keys j k same)) (gone k rows))
     go false off = inr (row_drop_away j k (differs off) rows)
 
-module _ (k : Key) (theirs : AssertMetric) (end : ℕ) where
-  dropped : (s : State) (j : Key) → HasLost k theirs end s → HasLost k theirs end (assert_forgotten s j)
+module _ (k : Key) (r : AssertRow) where
+  -- the row of a key, or none
+  abbrev RowOr : State → Type 0
+  RowOr s = (row_at s.asserts k ≡ None) ⊎ (row_at s.asserts k ≡ Some r)
+
+  dropped : (s : State) (j : Key) → RowOr s → RowOr (assert_forgotten s j)
   unfolding assert_forgotten
   dropped s j f = go (drop_either j k s.asserts) f
     where
       go : (row_at (drop_at s.asserts j) k ≡ None) ⊎ (row_at (drop_at s.asserts j) k ≡ row_at s.asserts k)
-          → (row_at s.asserts k ≡ None) ⊎ (row_at s.asserts k ≡ Some (lost_to theirs end))
-          → (row_at (drop_at s.asserts j) k ≡ None) ⊎ (row_at (drop_at s.asserts j) k ≡ Some (lost_to theirs end))
+          → (row_at s.asserts k ≡ None) ⊎ (row_at s.asserts k ≡ Some r)
+          → (row_at (drop_at s.asserts j) k ≡ None) ⊎ (row_at (drop_at s.asserts j) k ≡ Some r)
       go (inl none) f = inl none
       go (inr same) (inl e) = inl (same ∙ e)
       go (inr same) (inr e) = inr (same ∙ e)
 
-  -- what follows from a change makes no winner
-  settled_lost : (o : State) (c : State × List Message) (w : ℕ) → HasLost k theirs end c.0 → HasLost k theirs end (settled o c w).0
+  -- what follows from a change puts no row
+  pub settled_row : (o : State) (c : State × List Message) (w : ℕ) → RowOr c.0 → RowOr (settled o c w).0
   unfolding settle_registers without_spt_bit
-  settled_lost o c w f =
-      subst (λ (t : Table AssertRow). (row_at t k ≡ None) ⊎ (row_at t k ≡ Some (lost_to theirs end)))
+  settled_row o c w f =
+      subst (λ (t : Table AssertRow). (row_at t k ≡ None) ⊎ (row_at t k ≡ Some r))
       (sym (ap (λ (u : Untold). u.asserts) (cleared_in_the_end o c w)))
-      (kept_by_clearing (HasLost k theirs end) (λ s j g. dropped s j g) (λ s j g. g) o c.0 f)
+      (kept_by_clearing RowOr (λ s j g. dropped s j g) (λ s j g. g) o c.0 f)
 
 module _ (i : ℕ) (a : AssertMessage) where
   abbrev its_key : Key
@@ -166,7 +170,7 @@ module _ (k : Key) (r : AssertRow) (i : IfaceId) (from : Addr) (a : AssertMessag
   unfolding done change
   has_lost gives =
       subst (λ (x : Answered). HasLost k (theirs_of a from.bits) (s.present + 180000) x.state) (sym is_done)
-      (settled_lost k (theirs_of a from.bits) (s.present + 180000) s own e.draw
+      (settled_row k (lost_to (theirs_of a from.bits) (s.present + 180000)) s own e.draw
       (subst (λ (j : Key). HasLost j (theirs_of a from.bits) (s.present + 180000) own.0) f.key
       (lost_then s i.number from.bits a r f.about row_here
       (ap (λ (j : Key). gives_way s j r (theirs_of a from.bits)) f.key ∙ gives))))
@@ -251,8 +255,33 @@ module _ (from g src : ℕ) (m : AssertMetric) (f : IsSayable from g src m) wher
 
 -- ---- two routers
 
-module _ (g src : ℕ) (metric : AssertMetric) (c : Adjacent) (n : Network) (m : Move) (sayable : IsSayable c.address g src metric)
-    (about : is_about (said g src metric) ≡ true) (f : AnswersBy g src metric c n m) where
+-- the delivery of an Assert to a router that gives way to it
+module _ (g src : ℕ) (metric : AssertMetric) (c : Adjacent) (sayable : IsSayable c.address g src metric) (about : is_about (said g src metric) ≡ true)
+    (number : ℕ) (n : Network) (framed : frame_at n number ≡ Some (record { link = Some c.link; bytes = assert_packet c.address g src metric }))
+    (draw : ℕ) (st : Station) (at : station_at n c.upper ≡ Some st) (can : CanGiveWay g src metric c st) where
+  abbrev at_iface : IfaceId
+  at_iface = record { number = c.down }
+
+  abbrev comes : Event
+  comes = record { draw = draw; kind = EventKind.Frame at_iface (assert_packet c.address g src metric) }
+
+  heard : done_as (happens st.state comes) ≡ Some (Accepted.Assert at_iface (addr c.address) (said g src metric))
+  heard =
+      done_if st.state comes (Accepted.Assert at_iface (addr c.address) (said g src metric))
+      (assert_is_read c.address g src metric sayable st.state c.down can.hears) can.room
+
+  taken : IsStepped n c.upper st comes (moved n (Deliver c.upper c.down number draw)).1
+  taken = is_delivered n c.upper st c.down number draw c.link (assert_packet c.address g src metric) at can.linked framed
+
+  pub loses_then : LosesTo g src metric c st (moved n (Deliver c.upper c.down number draw)).1
+  loses_then = record {
+    state = (step st.state comes).state;
+    there = (taken).here;
+    lost = gives_way_to_assert (key_about c.down (said g src metric)) can.row at_iface (addr c.address) (said g src metric) st.state comes
+        (record { taken = heard; about = about; key = refl; row = can.found }) can.gives;
+  }
+
+module _ (g src : ℕ) (metric : AssertMetric) (c : Adjacent) (n : Network) (m : Move) (f : AnswersBy g src metric c n m) where
   abbrev s : State
   s = (f.station).state
 
@@ -275,43 +304,12 @@ module _ (g src : ℕ) (metric : AssertMetric) (c : Adjacent) (n : Network) (m :
   new : IsNewOn n after c.link (assert_packet c.address g src metric)
   new = (steps).sent c.iface c.link (assert_packet c.address g src metric) f.linked is_sent
 
-  abbrev number : ℕ
-  number = ((new).on).number
-
-  module _ (waits : List Move) (draw : ℕ) (st : Station) (at : station_at (network_ran after waits).1 c.upper ≡ Some st)
-      (can : CanGiveWay g src metric c st) where
-    abbrev later : Network
-    later = (network_ran after waits).1
-
-    framed : frame_at later number ≡ Some (record { link = Some c.link; bytes = assert_packet c.address g src metric })
-    framed = frames_stay after waits number _ ((new).on).is
-
-    abbrev at_iface : IfaceId
-    at_iface = record { number = c.down }
-
-    abbrev comes : Event
-    comes = record { draw = draw; kind = EventKind.Frame at_iface (assert_packet c.address g src metric) }
-
-    heard : done_as (happens st.state comes) ≡ Some (Accepted.Assert at_iface (addr c.address) (said g src metric))
-    heard =
-        done_if st.state comes (Accepted.Assert at_iface (addr c.address) (said g src metric))
-        (assert_is_read c.address g src metric sayable st.state c.down can.hears) can.room
-
-    taken : IsStepped later c.upper st comes (moved later (Deliver c.upper c.down number draw)).1
-    taken = is_delivered later c.upper st c.down number draw c.link (assert_packet c.address g src metric) at can.linked framed
-
-    loses_then : LosesTo g src metric c st (moved later (Deliver c.upper c.down number draw)).1
-    loses_then = record {
-      state = (step st.state comes).state;
-      there = (taken).here;
-      lost = gives_way_to_assert (key_about c.down (said g src metric)) can.row at_iface (addr c.address) (said g src metric) st.state comes
-          (record { taken = heard; about = about; key = refl; row = can.found }) can.gives;
-    }
-
 pub one_winner_is_left : OneWinnerIsLeft
 one_winner_is_left g src metric c n m sayable about f = record {
-  number = number g src metric c n m sayable about f;
-  later = (new g src metric c n m sayable about f).later;
-  framed = ((new g src metric c n m sayable about f).on).is;
-  tells = λ waits draw st at can. loses_then g src metric c n m sayable about f waits draw st at can;
+  number = ((new g src metric c n m f).on).number;
+  later = (new g src metric c n m f).later;
+  framed = ((new g src metric c n m f).on).is;
+  tells = λ waits draw st at can.
+      loses_then g src metric c sayable about ((new g src metric c n m f).on).number (network_ran (moved n m).1 waits).1
+      (frames_stay (moved n m).1 waits ((new g src metric c n m f).on).number _ ((new g src metric c n m f).on).is) draw st at can;
 }

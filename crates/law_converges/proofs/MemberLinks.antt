@@ -4,7 +4,7 @@ use Rattle.pim_types.{specs.{Keys.star_key, declared.fact.{AssertMetric.AssertMe
 use Rattle.pim_model.{specs.{Full.source_is_full, Neighbours.is_dr, Network.{Move, Network, Station, station_at}, Receivers.{is_exclude, local_receiver_exclude, local_receiver_star}, Sets.{assert_source, assert_star, immediate_olist_star, is_loser, is_winner, joins_star, lost_assert_star, pim_include_star, serves_star, spt_bit}, State.{State, iface_count, is_own, is_up}, Unicast.{is_rpf_interface, is_rpf_interface_rp}}}
 use Rattle.law_settled.{specs.Ready.IsSettled}
 use Rattle.law_streams.{proofs.{Pairs.same_station, Serves.on_the_tree, Taken.wanted_star}, specs.{InTimeJoins.{Always, AreThere, IsHeld, IsJoin, IsReady, Star, Wants}, Passing.{Passes, Receiver, Tree, is_asked}}}
-use Rattle.law_converges.{proofs.{CarriedNetwork.{carried_network_settles, one_lan}, CarriedWays.{HopsStand, its_lan, ready_past, served_once}, Past.{both_past, later_past, same_past, throughout_past}, RoutesToRp.within, Settles.one_of, Unheard.{HasState, none_lost_past}}, specs.{Carried.{Arrivals, Traffic}, CarriedNetwork.{Claim, ClaimIsQuiet, HopOn, IsOneLan, IsQuietPlan, Lan, LanIsQuiet, LoserIsQuiet, Plan, layout_of, number_of}, CarriedWays.{AreOnTree, forwarders, pair_on, root_of}, ComesOnce.{AreServedOnce, Forwards, HasOneOn}, LinkDr.{HasOneDr, IsDrOf, IsOne, Member, Stands, between, is_preferred}, LinkLosers.Wins, LinkMembers.KnowsGroup, MemberLinks.{AsDr, AsWinner, IsOneClaim, IsOneGroup, MemberIsWanted, Serves, ServesMember, Unbeaten, Undisputed, Winner, to_hosts}, Past.{HoldsPast, HoldsPastOn}, Settles.{HasSettled, Link, LinkHasSettled, routers}}}
+use Rattle.law_converges.{proofs.{CarriedNetwork.{carried_network_settles, one_lan}, CarriedWays.{HopsStand, its_lan, ready_past, served_once}, Past.{both_past, later_past, same_past, throughout_past}, RoutesToRp.within, Settles.one_of, Unheard.{HasState, none_lost_past}}, specs.{Carried.{Arrivals, Traffic}, CarriedNetwork.{Claim, ClaimIsQuiet, HopOn, IsOneLan, IsQuietPlan, Lan, LanIsQuiet, LoserIsQuiet, Plan, layout_of, number_of}, CarriedWays.{AreOnTree, forwarders, pair_on, root_of}, ComesOnce.{AreServedOnce, Forwards, HasOneOn}, LinkDr.{HasOneDr, IsDrOf, IsOne, Member, Stands, between, is_preferred}, LinkLosers.Wins, LinkMembers.KnowsGroup, MemberLinks.{AsDr, AsWinner, IsOneClaim, IsOneGroup, MemberIsWanted, Serves, ServesMember, Unbeaten, NoneBetter, Winner, to_hosts}, Past.{HoldsPast, HoldsPastOn}, Settles.{HasSettled, Link, LinkHasSettled, routers}}}
 
 -- ---- lists
 
@@ -110,7 +110,7 @@ module _ (g d late lag bound : ℕ) (started : ℕ → ℕ) (t : Traffic) (came 
 
   pub unlost_past : (y : Member) → IsOne (routers a.link) y → Unbeaten g bound started n ms a y
       → HoldsPast started bound (HasState (λ s. is_loser (assert_star s g y.iface) ≡ false) y.router) n ms
-  unlost_past y is (Undisputed f) = none_lost_past (star_key y.iface g) bound started y.router n ms (((its_link).meet).ready y is) f
+  unlost_past y is (NoneBetter f) = none_lost_past (star_key y.iface g) bound started y.router n ms (((its_link).meet).ready y is) f
   unlost_past y is (Winner c z one group source won loses) =
       same_past started bound (Wins g 0 c.metric (between (number_of a) y z)) (HasState (λ s. is_loser (assert_star s g y.iface) ≡ false) y.router)
       (λ n w. record { station = w.station; there = w.there; good = ap is_loser w.found ∙ no_loser w.row w.wins }) ms n

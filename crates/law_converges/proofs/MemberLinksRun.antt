@@ -4,7 +4,7 @@ use Rattle.pim_types.{specs.{Keys.{rpt_key, source_key, star_key}, declared.fact
 use Rattle.pim_model.{specs.{Network.{Move, Network, Station, moved, station_at}, Tables.row_at}}
 use Rattle.law_streams.{specs.{InTimeJoins.IsReady, Joins.join_packet}}
 use Rattle.pim_runs.{proofs.OnLiterals.machine_on_literals, specs.{Base.rp, InTime.started, ServedChain.asked_group}}
-use Rattle.law_converges.{proofs.{AloneOnLink.{before_each, each_move_both}, CarriedNetworkRun.{carried, farther_ready, high_quiet, low_quiet, together_passes}, CarriedTests.{carries_test, each_move_so, move_test}, HelloTests.single_so, KeepsTests.{ask_keeps, ask_keeps_so, meet_keeps, meet_keeps_so}, MemberLinks.member_is_wanted, MemberTests.{EachHeard, all_over, heard_none, inside_so, inside_test, members_so, members_test, none_heard, sourceless_at, sourceless_so, takes_at, takes_so, unasked_at, unasked_so}, QueryTests.{member_so, member_test}, Tested.{Found, all_together, found, happens_not, not_so, then}, WayTests.{early, isnt_past, past_run, past_run_so}}, specs.{AloneOnLink.{ComesDownTheWay, LostGroup, NoHosts, OthersSendNone, SendsNone}, Carried.EachMove, CarriedNetwork.LanIsQuiet, CarriedNetworkRun.{before, bound, claim, far_source, farther_on_high, farther_on_low, high_lan, lag, low_lan, moves, nearer_on_high, nearer_on_low, none_came, rp_on_high, soon, traffic}, CarriedWaysRun.its_hop, LinkDr.{IsOne, Member, between, is_preferred}, LinkRpt.is_pruned_by, MemberLinks.{AsDr, AsWinner, ServesMember, Undisputed, Winner}, MemberLinksRun.{BothAreWanted, NoOthersSend, ServedPlanIsQuiet, farther_on_own, other_hop, own_lan, served_plan}, Past.ArePast, Settles.routers, Unheard.{HearsNoPrune, HearsNone, is_gone}}}
+use Rattle.law_converges.{proofs.{AloneOnLink.{before_each, each_move_both}, CarriedNetworkRun.{carried, farther_ready, high_quiet, low_quiet, together_passes}, CarriedTests.{carries_test, each_move_so, move_test}, HelloTests.single_so, KeepsTests.{ask_keeps, ask_keeps_so, meet_keeps, meet_keeps_so}, MemberLinks.member_is_wanted, MemberTests.{EachHeard, all_over, hears_none_better, inside_so, inside_test, members_so, members_test, none_better, sourceless_at, sourceless_so, takes_at, takes_so, unasked_at, unasked_so}, QueryTests.{member_so, member_test}, Tested.{Found, all_together, found, happens_not, not_so, then}, WayTests.{early, isnt_past, past_run, past_run_so}}, specs.{AloneOnLink.{ComesDownTheWay, LostGroup, NoHosts, OthersSendNone, SendsNone}, Carried.EachMove, CarriedNetwork.LanIsQuiet, CarriedNetworkRun.{before, bound, claim, far_source, farther_on_high, farther_on_low, high_lan, lag, low_lan, moves, nearer_on_high, nearer_on_low, none_came, rp_on_high, soon, traffic}, CarriedWaysRun.its_hop, LinkDr.{IsOne, Member, between, is_preferred}, LinkRpt.is_pruned_by, MemberLinks.{AsDr, AsWinner, ServesMember, NoneBetter, Winner}, MemberLinksRun.{BothAreWanted, NoOthersSend, ServedPlanIsQuiet, farther_on_own, other_hop, own_lan, served_plan}, Past.ArePast, Settles.routers, Unheard.{HearsNoPrune, HearsNoBetter, is_gone}}}
 
 -- ---- the second router's own link
 
@@ -74,15 +74,14 @@ low_serves = record { among = inl refl; member = inl refl; serves = AsWinner cla
 pub own_serves : ServesMember asked_group served_plan.lans own_lan farther_on_own
 own_serves = record { among = inr (inr (inl refl)); member = inl refl; serves = AsDr (inl refl) own_first }
 
--- no Assert of the group comes to the routers of the second LAN, or on the second router's own link; none of the source comes anywhere, and
--- nobody prunes the source
+-- no better Assert of the group comes to the routers, nor one of the source, and nobody prunes the source
 abbrev pub keys_of : ℕ → List Key
-keys_of zero = star_key 1 asked_group ∷ source_key 0 asked_group far_source ∷ []
+keys_of zero = star_key 0 asked_group ∷ star_key 1 asked_group ∷ source_key 0 asked_group far_source ∷ []
 keys_of (suc zero) = star_key 1 asked_group ∷ star_key 2 asked_group ∷ source_key 2 asked_group far_source ∷ []
 keys_of (suc (suc r)) = star_key 0 asked_group ∷ source_key 0 asked_group far_source ∷ []
 
 abbrev none_to : ℕ → Network → Move → Bool
-none_to r n m = none_heard r (keys_of r) n m
+none_to r n m = none_better r (keys_of r) n m
 
 abbrev none_prunes : Network → Move → Bool
 none_prunes n m = happens_not 2 (λ s a. is_pruned_by 0 asked_group far_source a) n m
@@ -93,12 +92,12 @@ none_to_rp n m = none_to 2 n m && none_prunes n m
 abbrev none_higher : Network → Move → Bool
 none_higher n m = none_to 1 n m && none_to_rp n m
 
-abbrev is_unheard : Network → Move → Network → Bool
-is_unheard n m next = none_to 0 n m && none_higher n m
+abbrev is_unbeaten : Network → Move → Network → Bool
+is_unbeaten n m next = none_to 0 n m && none_higher n m
 
-unheard_passes : move_test is_unheard before moves ≡ true
+unbeaten_passes : move_test is_unbeaten before moves ≡ true
 unfolding machine_on_literals join_packet
-unheard_passes = refl
+unbeaten_passes = refl
 
 abbrev are_over : Network → Bool
 are_over n =
@@ -109,25 +108,25 @@ over_passes : are_over before ≡ true
 unfolding machine_on_literals join_packet
 over_passes = refl
 
-pub record AreUnheard (n : Network) (ms : List Move) : Type 0 where
+pub record AreUnbeaten (n : Network) (ms : List Move) : Type 0 where
   pub nearer : EachHeard 0 (keys_of 0) n ms
   pub farther : EachHeard 1 (keys_of 1) n ms
   pub at_rp : EachHeard 2 (keys_of 2) n ms
   pub pruned : HearsNoPrune asked_group far_source bound started rp_on_high n ms
 
 -- of any network and moves, so that none is computed here
-unheard_of : (n : Network) (ms : List Move) → are_over n ≡ true → move_test is_unheard n ms ≡ true → AreUnheard n ms
-unheard_of n ms first moves =
+unbeaten_of : (n : Network) (ms : List Move) → are_over n ≡ true → move_test is_unbeaten n ms ≡ true → AreUnbeaten n ms
+unbeaten_of n ms first moves =
     then first (λ nearer e. then e (λ farther e. then e (λ at_rp gone. record {
-      nearer = record { over = nearer; moves = each_move_so is_unheard _ (λ n m e. first_so (none_to 0 n m) (none_higher n m) e) ms n moves };
+      nearer = record { over = nearer; moves = each_move_so is_unbeaten _ (λ n m e. first_so (none_to 0 n m) (none_higher n m) e) ms n moves };
       farther = record {
         over = farther;
-        moves = each_move_so is_unheard _ (λ n m e. first_so (none_to 1 n m) (none_to_rp n m) (higher n m e)) ms n moves;
+        moves = each_move_so is_unbeaten _ (λ n m e. first_so (none_to 1 n m) (none_to_rp n m) (higher n m e)) ms n moves;
       };
-      at_rp = record { over = at_rp; moves = each_move_so is_unheard _ (λ n m e. first_so (none_to 2 n m) (none_prunes n m) (to_rp n m e)) ms n moves };
+      at_rp = record { over = at_rp; moves = each_move_so is_unbeaten _ (λ n m e. first_so (none_to 2 n m) (none_prunes n m) (to_rp n m e)) ms n moves };
       pruned =
           let f : Found Station _ (station_at n 2) = found Station _ (station_at n 2) gone in record {
-            none = each_move_so is_unheard _ (λ n m e. not_so 2 (λ s a. is_pruned_by 0 asked_group far_source a) n m
+            none = each_move_so is_unbeaten _ (λ n m e. not_so 2 (λ s a. is_pruned_by 0 asked_group far_source a) n m
                 (second_so (none_to 2 n m) (none_prunes n m) (to_rp n m e))) ms n moves;
             station = f.it;
             there = f.is;
@@ -137,27 +136,27 @@ unheard_of n ms first moves =
           };
     })))
   where
-    higher : (n : Network) (m : Move) → is_unheard n m (moved n m).1 ≡ true → none_higher n m ≡ true
+    higher : (n : Network) (m : Move) → is_unbeaten n m (moved n m).1 ≡ true → none_higher n m ≡ true
     higher n m e = second_so (none_to 0 n m) (none_higher n m) e
 
-    to_rp : (n : Network) (m : Move) → is_unheard n m (moved n m).1 ≡ true → none_to_rp n m ≡ true
+    to_rp : (n : Network) (m : Move) → is_unbeaten n m (moved n m).1 ≡ true → none_to_rp n m ≡ true
     to_rp n m e = second_so (none_to 1 n m) (none_to_rp n m) (higher n m e)
 
     at_least : (i j : ℕ) → 0 ≤ j
     at_least i j = omega arith
 
-pub are_unheard : AreUnheard before moves
-are_unheard = unheard_of before moves over_passes unheard_passes
+pub are_unbeaten : AreUnbeaten before moves
+are_unbeaten = unbeaten_of before moves over_passes unbeaten_passes
 
-pub own_unheard : HearsNone (star_key 2 asked_group) bound started 1 before moves
-own_unheard = heard_none bound started 1 (keys_of 1) before moves (are_unheard).farther (star_key 2 asked_group) (inr (inl refl)) (lit≤ tt)
+pub own_unbeaten : HearsNoBetter (star_key 2 asked_group) bound started 1 before moves
+own_unbeaten = hears_none_better bound started 1 (keys_of 1) before moves (are_unbeaten).farther (star_key 2 asked_group) (inr (inl refl)) (lit≤ tt)
 
 pub both_are_wanted : BothAreWanted
 both_are_wanted = (
   member_is_wanted asked_group rp soon soon lag bound started traffic none_came served_plan before moves low_lan nearer_on_low
       served_plan_is_quiet low_serves (Winner claim farther_on_low (inl refl) refl refl refl (inl refl)),
   member_is_wanted asked_group rp soon soon lag bound started traffic none_came served_plan before moves own_lan farther_on_own
-      served_plan_is_quiet own_serves (Undisputed own_unheard),
+      served_plan_is_quiet own_serves (NoneBetter own_unbeaten),
 )
 
 -- ---- nobody else sends there

@@ -4,7 +4,7 @@ use Rattle.pim_ip.{specs.Ipv4.Packet}
 use Rattle.pim_types.{specs.declared.{event.Event.Event, fact.Key.Key}}
 use Rattle.pim_model.{specs.{Cause.{done_as, packet_in}, Desires.join_desired, Full.source_is_full, Network.{At, Deliver, DeliverUnicast, Move, Network, Station, event_of, moved, station_at}, Receivers.{local_receiver_exclude, local_receiver_include, local_receiver_star}, Sets.{joins, joins_star, spt_bit}, State.is_own, Tables.{row_at, same_option}, Unicast.{is_connected, is_rpf_interface, is_rpf_interface_rp, rpf_interface}}}
 use Rattle.law_streams.{specs.Copies.happens}
-use Rattle.law_converges.{proofs.Tested.{Found, both_true, each_found, found, happens_not, if_so, not_so, off_so, then}, specs.{AloneOnLink.{AreMembers, HasNoHosts, IsMemberAt, IsUnjoined, TakesOn}, Carried.EachMove, EachMember.{IsIncluded, TakesOnTree}, LinkDr.Member, SilentRouters.IsOnlyWayIn, Unheard.{HearsNone, hears_assert, is_over}}}
+use Rattle.law_converges.{proofs.Tested.{Found, both_true, each_found, found, happens_not, if_so, not_so, off_so, then}, specs.{AloneOnLink.{AreMembers, HasNoHosts, IsMemberAt, IsUnjoined, TakesOn}, Carried.EachMove, EachMember.{IsIncluded, TakesOnTree}, LinkDr.Member, SilentRouters.IsOnlyWayIn, Unheard.{HearsNoBetter, hears_better, is_over}}}
 
 -- ---- who is on a link
 
@@ -189,8 +189,8 @@ module _ (g src : ℕ) (x : Member) where
 -- ---- Asserts
 
 -- no Assert that one of some machines may read comes to a router by the move
-abbrev pub none_heard : ℕ → List Key → Network → Move → Bool
-none_heard r ks n m = happens_not r (λ s a. list_any (λ k. hears_assert k a) ks) n m
+abbrev pub none_better : ℕ → List Key → Network → Move → Bool
+none_better r ks n m = happens_not r (λ s a. list_any (λ k. hears_better k s a) ks) n m
 
 -- and none of them has lost one to begin with
 abbrev pub all_over : ℕ → List Key → Network → Bool
@@ -198,7 +198,7 @@ all_over r ks n = option_map_or (λ (st : Station). list_all (λ k. is_over 0 (r
 
 pub record EachHeard (r : ℕ) (ks : List Key) (n : Network) (ms : List Move) : Type 0 where
   pub over : all_over r ks n ≡ true
-  pub moves : EachMove (λ n m. none_heard r ks n m ≡ true) n ms
+  pub moves : EachMove (λ n m. none_better r ks n m ≡ true) n ms
 
 abbrev pub IsKey : List Key → Key → Type 0
 IsKey [] k = ⊥
@@ -220,9 +220,9 @@ all_of p [] k e none = absurd none
 all_of p (j ∷ js) k e (inl same) = subst (λ (q : Key). p q ≡ true) same (then e (λ a b. a))
 all_of p (j ∷ js) k e (inr later) = all_of p js k (then e (λ a b. b)) later
 
-pub heard_none : (bound : ℕ) (started : ℕ → ℕ) (r : ℕ) (ks : List Key) (n : Network) (ms : List Move) → EachHeard r ks n ms → (k : Key) → IsKey ks k
-    → 0 + started r ≤ bound → HearsNone k bound started r n ms
-heard_none bound started r ks n ms f k is by =
+pub hears_none_better : (bound : ℕ) (started : ℕ → ℕ) (r : ℕ) (ks : List Key) (n : Network) (ms : List Move) → EachHeard r ks n ms → (k : Key) → IsKey ks k
+    → 0 + started r ≤ bound → HearsNoBetter k bound started r n ms
+hears_none_better bound started r ks n ms f k is by =
     let s : Found Station _ (station_at n r) = found Station (λ (st : Station). list_all (λ k. is_over 0 (row_at (st.state).asserts k)) ks) (station_at n r) f.over in record {
       none = each_more ms n f.moves;
       station = s.it;
@@ -232,13 +232,13 @@ heard_none bound started r ks n ms f k is by =
       by = by;
     }
   where
-    each_more : (ms : List Move) (n : Network) → EachMove (λ n m. none_heard r ks n m ≡ true) n ms
+    each_more : (ms : List Move) (n : Network) → EachMove (λ n m. none_better r ks n m ≡ true) n ms
         → EachMove (λ n m. (e : Event) (st : Station) → event_of n m ≡ Some (r, e) → station_at n r ≡ Some st
-        → hears_assert k (done_as (happens st.state e)) ≡ false) n ms
+        → hears_better k st.state (done_as (happens st.state e)) ≡ false) n ms
     each_more [] n e = tt
     each_more (m ∷ ms) n e = (
-      λ x st ev at. none_of (λ k. hears_assert k (done_as (happens st.state x))) ks k
-          (not_so r (λ s a. list_any (λ k. hears_assert k a) ks) n m e.0 x st ev at) is,
+      λ x st ev at. none_of (λ k. hears_better k st.state (done_as (happens st.state x))) ks k
+          (not_so r (λ s a. list_any (λ k. hears_better k s a) ks) n m e.0 x st ev at) is,
       each_more ms (moved n m).1 e.1,
     )
 

@@ -13,17 +13,17 @@ contradicts e = cc e
 
 -- a router's event makes its bytes a copy on the link
 pub record IsPut (link number : ℕ) (bytes : List ℕ) (n : Network) (m : Move) : Type 0 where
-  router : ℕ
-  event : Event
-  is : event_of n m ≡ Some (router, event)
-  station : Station
-  at : station_at n router ≡ Some station
-  iface : ℕ
-  linked : slice_get station.links iface ≡ Some link
-  copied : Contains (copies_at station.state event) (on_link iface bytes)
-  packet : Packet
-  brought : packet_in (done_as (happens station.state event)) ≡ Some packet
-  text : bytes ≡ copy_text packet
+  pub router : ℕ
+  pub event : Event
+  pub is : event_of n m ≡ Some (router, event)
+  pub station : Station
+  pub at : station_at n router ≡ Some station
+  pub iface : ℕ
+  pub linked : slice_get station.links iface ≡ Some link
+  pub copied : Contains (copies_at station.state event) (on_link iface bytes)
+  pub packet : Packet
+  pub brought : packet_in (done_as (happens station.state event)) ≡ Some packet
+  pub text : bytes ≡ copy_text packet
 
 record GotOne (P : Emission → Type 0) (links : List ℕ) (f : Sent) : Type 0 where
   emission : Emission

@@ -6,7 +6,7 @@ use Rattle.law_streams.{specs.{Joins.join_packet}, proofs.{Deliveries.{IsStepped
 use Rattle.pim_runs.{specs.{Base.group, Packets.packet, Words.frame}, proofs.OnLiterals.machine_on_literals}
 use Rattle.law_converges.{specs.{LinkAssertsRun.{beside, better}, LinkLosers.{AssertInTime, AssertsComeInTime, KeepsLoss, loser_key, needs_no_clearing, passes_throughout, survives, winner_of}, LinkLosersRun.{has_heard, hears_it, late_assert, later_bound, says_again, started_later, two_of_late}, OneSender.IsOffTree, OneSenderRun.{FartherSendsNone, copied_there, data_comes}}, proofs.{LinkAssertsRun.sayable, LinkLosersRun.{by_later, hears, loses_beyond, lost_then, n1, nearer_2, ready, row_1, said_again, time_1, timely, wins_at}, OneSender.at_most_one_sends, TakesOver.moved_so, Tested.{event_at, not_at, same_event}}}
 
-frames_after : (n : Network) (r : ℕ) (st : Station) (e : Event) → station_at n r ≡ Some st
+pub frames_after : (n : Network) (r : ℕ) (st : Station) (e : Event) → station_at n r ≡ Some st
     → ((moved n (At r e)).1).frames ≡ n.frames ++ map (sent_by st.links) (step st.state e).emissions
 unfolding stepped
 frames_after n r st e at = ap (λ (x : Network). x.frames) (moved_so n (At r e) r e st (event_at n r st e at) at)

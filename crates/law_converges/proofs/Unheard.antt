@@ -1,13 +1,13 @@
--- A row of a lost assert, and one of a Prune(S,G,rpt), end no later, unless such a message comes again.
-use Rattle.std.{proofs.{Common.{Bool, List, None, Option, Some, [], ap, arith, cond, false, inl, inr, nat_le, nat_lt, not, refl, subst, sym, true, ℕ, ◌+◌, ◌<◌, ◌||◌, ◌∙◌, ◌∷◌, ◌≡◌, ◌≤◌, ◌⊎◌}, lemmas.Bool.{Decides.nat_tests, both_ways}}, specs.{List.{AllByRecursion, Sorted.IsStrictlySortedBy}, Option.option_map_or, Prelude.is_none, declared.cmp.Ordering.Ordering}}
-use Rattle.pim_types.{proofs.Keys.{equal_keys, same_key_same}, specs.{Keys.{is_on, key_cmp, rpt_key, same_key}, declared.{event.Event.Event, fact.{AssertMetric.AssertMetric, AssertRole.AssertRole, AssertRow.AssertRow, DownstreamRow.DownstreamRow, Key.Key}, timer.TimerKind.TimerKind}}}
+-- A row of a lost assert, and one of a Prune(S,G,rpt), end no later, unless such a message, or a better Assert, comes again.
+use Rattle.std.{proofs.{Common.{Bool, List, None, Option, Some, [], ap, arith, cond, false, inl, inr, nat_le, nat_lt, not, refl, subst, sym, true, ℕ, ◌&&◌, ◌+◌, ◌<◌, ◌||◌, ◌∙◌, ◌∷◌, ◌≡◌, ◌≤◌, ◌⊎◌}, lemmas.Bool.{Decides.nat_tests, both_ways}}, specs.{List.{AllByRecursion, Sorted.IsStrictlySortedBy}, Option.option_map_or, Prelude.is_none, declared.cmp.Ordering.Ordering}}
+use Rattle.pim_types.{proofs.Keys.{equal_keys, same_key_same}, specs.{Keys.{is_on, key_cmp, rpt_key, same_key, source_key, star_key}, declared.{event.Event.Event, fact.{AssertMetric.AssertMetric, AssertRole.AssertRole, AssertRow.AssertRow, DownstreamRow.DownstreamRow, Key.Key}, timer.TimerKind.TimerKind}}}
 use Rattle.pim_wire.{specs.{Values.{Encapsulated, JoinPrune, Null}, declared.{assert.Assert.Assert as AssertMessage, hello.Hello.Hello as HelloValue}}}
-use Rattle.pim_model.{specs.{Asserts.{assert_as_loser, assert_as_winner, assert_at, assert_due, assert_forgotten, assert_in_no_info, assert_received, data_seen, loses, loses_first, my_metric_at, winner_time, wins, wins_again, with_spt_bit, without_spt_bit}, Cause.done_as, Clearing.clear, Downstream.{asserts_after_joins, downstream_expired, keys_taken, prune_pending_due, to_me}, Firing.{fire_row, fired, keepalive_due, settled}, Forwarding.{forwarded, list_chosen, source_here, source_joined, spt_updated, stray}, Hellos.{hello_due, hello_received, hello_triggered, neighbour_due, neighbour_replaced, neighbour_restarted}, Messages.Message, Network.{Move, Network, Station, event_of, moved, station_at}, Querier.{general_query_due, group_record_due, group_repeat_due, other_querier_gone, querier_up, querying, querying_on, source_record_due, source_repeat_due, sources_sent}, Records.{with_members, with_repeats_of_rows}, Registers.{register_due, register_stop_seen, settle_registers}, Sets.{is_loser, is_winner, prunes}, State.State, Step.{advanced, change, done, iface_down, iface_up, ran, rps_replaced, state_after, step, taken}, Tables.{Table, change_row, drop_at, drop_where, keys_in, row_at}, Upstream.{join_timer_due, moved_join_timer, moved_override_timer, override_timer_due, upstream}, Writing.write_all, declared.accepted.Accepted.Accepted}}
+use Rattle.pim_model.{specs.{Asserts.{assert_as_loser, assert_as_winner, assert_at, assert_due, assert_forgotten, assert_in_no_info, assert_received, data_seen, is_acceptable, is_of_tree, is_tracking_at, loses, loses_first, my_metric_at, theirs_of, winner_time, wins, wins_again, with_spt_bit, without_spt_bit}, Cause.done_as, Clearing.clear, Downstream.{asserts_after_joins, downstream_expired, keys_taken, prune_pending_due, to_me}, Firing.{fire_row, fired, keepalive_due, settled}, Forwarding.{forwarded, list_chosen, source_here, source_joined, spt_updated, stray}, Hellos.{hello_due, hello_received, hello_triggered, neighbour_due, neighbour_replaced, neighbour_restarted}, Messages.Message, Network.{Move, Network, Station, event_of, moved, station_at}, Querier.{general_query_due, group_record_due, group_repeat_due, other_querier_gone, querier_up, querying, querying_on, source_record_due, source_repeat_due, sources_sent}, Records.{with_members, with_repeats_of_rows}, Registers.{register_due, register_stop_seen, settle_registers}, Sets.{is_loser, is_winner, prunes}, State.State, Step.{advanced, change, done, iface_down, iface_up, ran, rps_replaced, state_after, step, taken}, Tables.{Table, change_row, drop_at, drop_where, keys_in, row_at}, Upstream.{join_timer_due, moved_join_timer, moved_override_timer, override_timer_due, upstream}, Writing.write_all, declared.accepted.Accepted.Accepted}}
 use Rattle.law_settled.{proofs.{FineStates.Runs, ListLaws.{by_cond, each_filter}, Parts.{end_of, is_sound, part_of}, RowLaws.each_put, SettlingLaws.{kept_by_clearing, kept_by_telling}, ShownEnds.{rows_run, shown_is_later}, Steps.step_is_settled, TableLaws.row_of_each}, specs.Ready.IsSettled}
 use Rattle.law_streams.{proofs.{EndSoon.no_later, LiesUnder.row_fires, Pairs.{Steps, one_router, ready_then, same_station}, Rows.changed_good, Walks.time_walks}, specs.{Copies.happens, InTimeJoins.IsReady}}
 use Rattle.law_states.{proofs.{AssertEnds.{Read, here_read, joined_read, pending_read, query_read, read, register_read, report_read, seen_read, updated_read, watched_read}, Bounds.each_replaced}}
 use Rattle.law_hosts.{proofs.Done.after_event}
-use Rattle.law_converges.{proofs.LinkRptWaits.kept_unpruned, specs.{Carried.EachMove, LinkDr.Member, LinkLosers.reads_assert, LinkRpt.is_pruned_by, Past.{ArePast, HoldsPast}, Unheard.{AreNone, HearsNone, HearsNoPrune, LostAssertEnds, PruneEnds, hears_assert, is_gone, is_over}}}
+use Rattle.law_converges.{proofs.{AssertRows.{assert_by_row, assert_of, received_by}, LinkRptWaits.kept_unpruned}, specs.{Carried.EachMove, LinkAsserts.gives_way, LinkDr.Member, LinkLosers.reads_assert, LinkRpt.is_pruned_by, Past.{ArePast, HoldsPast}, Unheard.{AreNone, HearsNoBetter, HearsNoPrune, LostAssertEnds, PruneEnds, hears_better, is_gone, is_over, loses_to}}}
 
 -- ---- rows of a key
 
@@ -40,8 +40,8 @@ pub record HasState (Good : State → Type 0) (r : ℕ) (n : Network) : Type 0 w
   pub there : station_at n r ≡ Some station
   pub good : Good station.state
 
-module _ (test : Option Accepted → Bool) (until : ℕ) (All Good : State → Type 0)
-    (goes : (s : State) (e : Event) → IsSettled s → All s → test (done_as (happens s e)) ≡ false → All (step s e).state)
+module _ (test : State → Option Accepted → Bool) (until : ℕ) (All Good : State → Type 0)
+    (goes : (s : State) (e : Event) → IsSettled s → All s → test s (done_as (happens s e)) ≡ false → All (step s e).state)
     (ends : (s : State) → IsSettled s → All s → until ≤ s.present → Good s) where
   run_ends : (events : List Event) (s : State) → IsSettled s → All s → AreNone test s events → until ≤ (state_after s events).present
       → Good (state_after s events)
@@ -55,7 +55,7 @@ module _ (test : Option Accepted → Bool) (until : ℕ) (All Good : State → T
 
     walk : (ms : List Move) (n : Network) → (ready : IsReady r n) → All (ready.station).state
         → EachMove (λ n m. (e : Event) (st : Station) → event_of n m ≡ Some (r, e) → station_at n r ≡ Some st
-        → test (done_as (happens st.state e)) ≡ false) n ms → HoldsPast started bound (HasState Good r) n ms
+        → test st.state (done_as (happens st.state e)) ≡ false) n ms → HoldsPast started bound (HasState Good r) n ms
     walk [] n ready f none = tt
     walk (m ∷ ms) n ready f none = (now, walk ms (moved n m).1 next all_next none.1)
       where
@@ -179,9 +179,54 @@ module _ (k : Key) (bound : ℕ) where
         go None = no_info_all
         go (Some r) = by_role r (is_winner (Some r)) refl
 
-  received_all : (s : State) (i from : ℕ) (a : AssertMessage) → reads_assert k i a ≡ false → All s → All (assert_received s i from a).0
-  unfolding assert_received
-  received_all s i from a off f = grind (arith, at_another)
+  -- ---- one that the machine reads itself, and doesn't lose by
+
+  module _ (s : State) (theirs : AssertMetric) (f : All s) where
+    own_no_info : (is_acceptable s k theirs && (is_of_tree k theirs && is_tracking_at s k)) ≡ false → All (assert_in_no_info s k theirs).0
+    unfolding assert_in_no_info
+    own_no_info worse = grind (arith, wins_all)
+
+    own_winner : (r : AssertRow) → is_winner (Some r) ≡ true → gives_way s k r theirs ≡ false → All (assert_as_winner s k r theirs).0
+    unfolding assert_as_winner
+    own_winner r won worse = grind (arith, again_all)
+
+    own_loser : (r : AssertRow) → is_winner (Some r) ≡ false → gives_way s k r theirs ≡ false → All (assert_as_loser s k r theirs)
+    unfolding assert_as_loser
+    own_loser r lost worse = grind (arith, forgotten_all)
+
+    at_own : loses_to s k theirs ≡ false → All (assert_at s k theirs).0
+    at_own worse =
+        subst (λ (p : State × List Message). All p.0) (sym (assert_by_row s k theirs (row_at s.asserts k) refl)) (go (row_at s.asserts k) worse)
+      where
+        by_role : (r : AssertRow) (b : Bool) → is_winner (Some r) ≡ b → gives_way s k r theirs ≡ false
+            → All (cond b (assert_as_winner s k r theirs) (assert_as_loser s k r theirs, [])).0
+        by_role r true won e = own_winner r won e
+        by_role r false lost e = own_loser r lost e
+
+        go : (o : Option AssertRow) → option_map_or (λ (r : AssertRow). gives_way s k r theirs) o
+            (is_acceptable s k theirs && (is_of_tree k theirs && is_tracking_at s k)) ≡ false → All (assert_of s k theirs o).0
+        go None e = own_no_info e
+        go (Some r) e = by_role r (is_winner (Some r)) refl e
+
+    at_any : (j : Key) → (same_key k j ≡ true → loses_to s k theirs ≡ false) → All (assert_at s j theirs).0
+    at_any j worse = go (same_key k j) refl
+      where
+        go : (b : Bool) → same_key k j ≡ b → All (assert_at s j theirs).0
+        go false off = at_another s j theirs off f
+        go true same = subst (λ (q : Key). All (assert_at s q theirs).0) (equal_keys k j same) (at_own (worse same))
+
+  received_all : (s : State) (i from : ℕ) (a : AssertMessage) → (reads_assert k i a && loses_to s k (theirs_of a from)) ≡ false → All s
+      → All (assert_received s i from a).0
+  received_all s i from a off f =
+      received_by (λ p. All p.0) s i from a f
+      (λ some. at_any s (theirs_of a from) f (source_key i a.group.bits a.source.bits) (λ same. of_source _ _ _ _ some same off))
+      (λ rpt. at_any s (theirs_of a from) f (star_key i a.group.bits) (λ same. of_group _ _ _ _ rpt same off))
+    where
+      of_source : (none own rest better : Bool) → none ≡ false → own ≡ true → (((not none && own) || rest) && better) ≡ false → better ≡ false
+      of_source none own rest better e f g = grind arith
+
+      of_group : (rest rpt own better : Bool) → rpt ≡ true → own ≡ true → ((rest || (rpt && own)) && better) ≡ false → better ≡ false
+      of_group rest rpt own better e f g = grind arith
 
   -- ---- each event's own change
 
@@ -205,7 +250,7 @@ module _ (k : Key) (bound : ℕ) where
   unfolding to_me keys_taken asserts_after_joins
   to_me_all s i m f = each_filter Kept _ s.asserts f
 
-  change_all : (s : State) (w : ℕ) (a : Accepted) → hears_assert k (Some a) ≡ false → All s → All (change s w a).state
+  change_all : (s : State) (w : ℕ) (a : Accepted) → hears_better k s (Some a) ≡ false → All s → All (change s w a).state
   unfolding change iface_up querier_up querying rps_replaced register_stop_seen iface_down drop_where
   change_all s w (Accepted.Advance moment) off f = f
   change_all s w (Accepted.Up i) off f = f
@@ -253,14 +298,14 @@ module _ (k : Key) (bound : ℕ) where
 
   -- ---- any event
 
-  takes : (s : State) (e : Event) → All s → (a : Accepted) → done_as (happens s e) ≡ Some a → hears_assert k (Some a) ≡ false
+  takes : (s : State) (e : Event) → All s → (a : Accepted) → done_as (happens s e) ≡ Some a → hears_better k s (Some a) ≡ false
       → All (taken s e.draw a).state
   unfolding taken done
   takes s e f (Accepted.Advance m) was off = time_all s e.draw m f
   takes s e f a was off = settled_all s ((change s e.draw a).state, (change s e.draw a).messages) e.draw (change_all s e.draw a off f)
 
-  pub event_all : (s : State) (e : Event) → All s → hears_assert k (done_as (happens s e)) ≡ false → All (step s e).state
-  event_all s e f off = after_event (λ o t. hears_assert k o ≡ false → All t) s e (λ none. f) (takes s e f) off
+  pub event_all : (s : State) (e : Event) → All s → hears_better k s (done_as (happens s e)) ≡ false → All (step s e).state
+  event_all s e f off = after_event (λ o t. hears_better k s o ≡ false → All t) s e (λ none. f) (takes s e f) off
 
   -- ---- in the end
 
@@ -288,14 +333,14 @@ module _ (k : Key) (bound : ℕ) where
 
 pub lost_assert_ends : LostAssertEnds
 lost_assert_ends s events k bound rest f none past =
-    run_ends (hears_assert k) bound (All k bound) (λ t. is_loser (row_at t.asserts k) ≡ false) (λ t e r h off. event_all k bound t e h off)
+    run_ends (hears_better k) bound (All k bound) (λ t. is_loser (row_at t.asserts k) ≡ false) (λ t e r h off. event_all k bound t e h off)
     (none_lost k bound) events s rest (each_of_row k (over k bound) s.asserts (rest.ordered).asserts f) none past
 
--- a router that hears no Assert has lost none, from the bound on
-pub none_lost_past : (k : Key) (bound : ℕ) (started : ℕ → ℕ) (r : ℕ) (n : Network) (ms : List Move) → IsReady r n → HearsNone k bound started r n ms
+-- a router that hears no better Assert has lost none, from the bound on
+pub none_lost_past : (k : Key) (bound : ℕ) (started : ℕ → ℕ) (r : ℕ) (n : Network) (ms : List Move) → IsReady r n → HearsNoBetter k bound started r n ms
     → HoldsPast started bound (HasState (λ s. is_loser (row_at s.asserts k) ≡ false) r) n ms
 none_lost_past k bound started r n ms ready f =
-    walk (hears_assert k) f.until (All k f.until) (λ t. is_loser (row_at t.asserts k) ≡ false) (λ t e rest h off. event_all k f.until t e h off)
+    walk (hears_better k) f.until (All k f.until) (λ t. is_loser (row_at t.asserts k) ≡ false) (λ t e rest h off. event_all k f.until t e h off)
     (none_lost k f.until) bound started r f.by ms n ready
     (each_of_row k (over k f.until) ((ready.station).state).asserts (((ready.at_rest).settled).ordered).asserts
     (subst (λ (z : Station). is_over f.until (row_at (z.state).asserts k) ≡ true) (same_station f.there ready.there) f.over)) f.none
@@ -357,14 +402,14 @@ module _ (i g src bound : ℕ) where
 
 pub prune_ends : PruneEnds
 prune_ends s events i g src bound rest f none past =
-    run_ends (is_pruned_by i g src) bound (Gone i g src bound) (λ t. prunes t g src i ≡ false) (goes_gone i g src bound) (none_pruned i g src bound)
+    run_ends (λ u. is_pruned_by i g src) bound (Gone i g src bound) (λ t. prunes t g src i ≡ false) (goes_gone i g src bound) (none_pruned i g src bound)
     events s rest f none past
 
 -- a router at which nobody prunes a source doesn't have it pruned, from the bound on
 pub none_pruned_past : (g src bound : ℕ) (started : ℕ → ℕ) (y : Member) (n : Network) (ms : List Move) → IsReady y.router n
     → HearsNoPrune g src bound started y n ms → HoldsPast started bound (HasState (λ s. prunes s g src y.iface ≡ false) y.router) n ms
 none_pruned_past g src bound started y n ms ready f =
-    walk (is_pruned_by y.iface g src) f.until (Gone y.iface g src f.until) (λ t. prunes t g src y.iface ≡ false) (goes_gone y.iface g src f.until)
+    walk (λ u. is_pruned_by y.iface g src) f.until (Gone y.iface g src f.until) (λ t. prunes t g src y.iface ≡ false) (goes_gone y.iface g src f.until)
     (none_pruned y.iface g src f.until) bound started y.router f.by ms n ready
     (subst (λ (z : Station). is_gone f.until (row_at (z.state).downstream (rpt_key y.iface g src)) ≡ true) (same_station f.there ready.there) f.over)
     f.none

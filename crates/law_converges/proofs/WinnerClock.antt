@@ -1,14 +1,14 @@
 -- The Assert Timer of a winner: it ends no later, or an Assert leaves and it ends 177 s later, or the router isn't the winner
 -- any more.
-use Rattle.std.{proofs.{Common.{◌≡◌, ◌∙◌, ℕ, ◌+◌, ◌-◌, ◌≤◌, ◌&&◌, ◌||◌, ◌==◌, not, Bool, true, false, cond, List, [], ◌∷◌, ◌++◌, ◌⊎◌, inl, inr, length, append-nil, Option, Some, None, is_some, option_and_then, refl, sym, ap, subst, arith}, lemmas.{Bool.both_ways, List.Elements.{Contains-append_left, Contains-append_right}}}, specs.{List.Contains, Option.option_map_or}}
+use Rattle.std.{proofs.{Common.{◌≡◌, ◌∙◌, ℕ, ◌+◌, ◌-◌, ◌≤◌, ◌&&◌, not, Bool, true, false, cond, List, [], ◌∷◌, ◌++◌, ◌⊎◌, inl, inr, length, Option, Some, None, is_some, option_and_then, refl, sym, ap, subst, arith}, lemmas.{Bool.both_ways, List.Elements.{Contains-append_left, Contains-append_right}}}, specs.{List.Contains, Option.option_map_or}}
 use Rattle.pim_types.{specs.{Keys.{group_in, iface_in, is_on, is_star, same_key, source_in, source_key, star_key}, declared.{config.IfaceId.IfaceId, event.Event.Event, fact.{AssertMetric.AssertMetric, AssertRow.AssertRow, InterfaceRow.InterfaceRow, Key.Key}, outcome.Emission.Emission, timer.TimerKind.TimerKind}}, proofs.Keys.{equal_keys}}
 use Rattle.pim_ip.{specs.declared.addr.Addr.Addr}
 use Rattle.pim_wire.{specs.declared.assert.Assert.Assert as AssertMessage}
-use Rattle.pim_model.{specs.{declared.accepted.Accepted.Accepted, Asserts.{assert_as_loser, assert_as_winner, assert_at, assert_due, assert_forgotten, assert_in_no_info, assert_message, assert_received, asserted_metric, loses, loses_first, theirs_of, wins, wins_again, with_spt_bit, without_spt_bit}, Clearing.clear, Downstream.{is_named, joined_keys}, Firing.{fire_all, fire_instant, fire_once, fire_row, fired, settled}, Messages.Message, Reach.own_firing, Judging.{Judged, judged}, Registers.settle_registers, Sets.{is_loser, is_winner, route_metric, rpt_metric, spt_metric}, State.{Addressing, State, address_among, is_own, my_address}, Step.{Answered, advanced, change, concluded, done, iface_down, step, taken, taken_unless_full}, Tables.{Table, change_row, changed_entry, drop_at, drop_where, has_row, row_at}, Timers.{Ending, next_due, timers}, Unicast.{route, rp_of, rp_route}, Writing.on_link}}
+use Rattle.pim_model.{specs.{declared.accepted.Accepted.Accepted, Asserts.{assert_as_loser, assert_as_winner, assert_at, assert_due, assert_forgotten, assert_message, assert_received, asserted_metric, loses, theirs_of, wins, wins_again, without_spt_bit}, Clearing.clear, Downstream.{is_named, joined_keys}, Firing.{fire_all, fire_instant, fire_once, fire_row, fired, settled}, Messages.Message, Reach.own_firing, Judging.{Judged, judged}, Registers.settle_registers, Sets.{is_loser, is_winner, route_metric, rpt_metric, spt_metric}, State.{Addressing, State, address_among, is_own, my_address}, Step.{Answered, advanced, change, concluded, done, iface_down, step, taken, taken_unless_full}, Tables.{Table, change_row, changed_entry, drop_at, drop_where, has_row, row_at}, Timers.{Ending, next_due, timers}, Unicast.{route, rp_of, rp_route}, Writing.on_link}}
 use Rattle.law_settled.{proofs.{FiringLaws.next_is_due, RowLaws.{has_row_dropped, row_put}, SettlingLaws.kept_by_clearing, UnchangedLaws.full_or_taken, Unsettled.{Unsettled, Untold, cleared_in_the_end, settling_leaves}}}
 use Rattle.law_events.{specs.Scopes.{reads, scope}, proofs.{Configured.{Ground, firing_ground, firing_ups, ground, ups}, SharedMacros.{route_cut, route_local, rp_of_local, rp_route_local}, UntoldKeys.same_by_scope}}
 use Rattle.law_streams.{specs.Joins.is_time, proofs.{Lasting.{Whole, assert_whole}, Leaves.{rest_agrees, untouched}, Turns.to_the_end}}
-use Rattle.law_converges.{specs.{LinkAsserts.{assert_packet, key_about, said}}, proofs.{AssertRows.{assert_by_row, at_another, change_kept, drops, fired_same}, LinkAsserts.{assert_leaves, done_sends, drop_either, its_group, its_iface, its_source, none_there}}}
+use Rattle.law_converges.{specs.{LinkAsserts.{assert_packet, key_about, said}}, proofs.{AssertRows.{assert_by_row, at_another, change_kept, drops, fired_same, received_by}, LinkAsserts.{assert_leaves, done_sends, drop_either, its_group, its_iface, its_source, none_there}}}
 
 pub record SendsAssert (cs : Addressing) (i g src : ℕ) (metric : AssertMetric) (sent : List Emission) : Type 0 where
   pub is_sent : Contains sent (on_link i (assert_packet (address_among cs i) g src metric))
@@ -280,17 +280,8 @@ module _ (i g src : ℕ) (metric : AssertMetric) where
         ∙ ap (λ (b : Bool). cond b (assert_as_winner s k r theirs) (assert_as_loser s k r theirs, [])) wins))
         (as_winner theirs)
 
-    -- a machine without information before and after is as it was
-    no_info : (j : Key) (theirs : AssertMetric) → has_row s.asserts j ≡ false → has_row (assert_at s j theirs).0.asserts j ≡ false
-        → assert_at s j theirs ≡ (s, [])
-    unfolding assert_at assert_in_no_info wins loses_first loses with_spt_bit has_row
-    no_info j theirs before after = grind (arith, row_put)
-
     stays_so : (p : State × List Message) → row_at (p.0).asserts k ≡ row_at s.asserts k → Changed p
     stays_so p same = inl (same ∙ found)
-
-    more : (p : State × List Message) → Changed p → Changed (p.0, p.1 ++ [])
-    more p f = subst (λ (ms : List Message). Changed (p.0, ms)) (sym (append-nil p.1)) f
 
     at_key : (q : Key) (theirs : AssertMetric) → Changed (assert_at s q theirs)
     at_key q theirs = go (same_key k q) refl
@@ -299,39 +290,10 @@ module _ (i g src : ℕ) (metric : AssertMetric) where
         go true same = subst (λ (z : Key). Changed (assert_at s z theirs)) (equal_keys k q same) (at_own theirs)
         go false apart = stays_so (assert_at s q theirs) (at_another k s q apart theirs)
 
-    -- an Assert of a source may go on to the group
-    module _ (j q : Key) (theirs : AssertMetric) where
-      abbrev first_of : Bool → State × List Message
-      first_of none = cond none (s, []) (assert_at s j theirs)
-
-      abbrev then_of : State × List Message → Bool → State × List Message
-      then_of p on = let x : State × List Message = cond on (assert_at p.0 q theirs) (p.0, []) in (x.0, p.1 ++ x.1)
-
-      abbrev is_silent : State → Bool
-      is_silent t = not (has_row s.asserts j) && not (has_row t.asserts j)
-
-      goes_on : (b : Bool) → is_silent (assert_at s j theirs).0 ≡ b → Changed (then_of (assert_at s j theirs) b)
-      goes_on false e = more (assert_at s j theirs) (at_key j theirs)
-      goes_on true e =
-          subst (λ (p : State × List Message). Changed (then_of p true))
-          (sym (no_info j theirs (first_false _ _ e) (second_false (has_row s.asserts j) _ e))) (at_key q theirs)
-        where
-          first_false : (a b : Bool) → (not a && not b) ≡ true → a ≡ false
-          first_false a b h = grind arith
-
-          second_false : (a b : Bool) → (not a && not b) ≡ true → b ≡ false
-          second_false a b h = grind arith
-
-      by_parts : (rpt none : Bool) → Changed (then_of (first_of none) (rpt && (none || is_silent (first_of none).0)))
-      by_parts true true = at_key q theirs
-      by_parts false true = inl found
-      by_parts false false = more (assert_at s j theirs) (at_key j theirs)
-      by_parts true false = goes_on (is_silent (assert_at s j theirs).0) refl
-
     received_so : (j from : ℕ) (a : AssertMessage) → Changed (assert_received s j from a)
-    unfolding assert_received
     received_so j from a =
-        by_parts (source_key j a.group.bits a.source.bits) (star_key j a.group.bits) (theirs_of a from) a.rpt (a.source.bits == 0)
+        received_by Changed s j from a (inl found) (λ some. at_key (source_key j a.group.bits a.source.bits) (theirs_of a from))
+        (λ rpt. at_key (star_key j a.group.bits) (theirs_of a from))
 
     -- ---- what follows of it
 

@@ -139,8 +139,9 @@ waiting =
     ++ all_to 402351
 
 -- Then the source sends another packet. The second router's Register brings it to the RP, which sends it on the second LAN, and the first
--- router on the first one. A Register of another router brings the RP a packet of a source far away, which the second router sends to its
--- host, too.
+-- router on the first one. An Assert of a source far away comes to the first router there, as of one that sends its packets by a worse
+-- route, and is answered. A Register of another router brings the RP a packet of that source, which the second router sends to its host,
+-- too.
 abbrev pub by_register : Move
 by_register = DeliverUnicast 2 55 7
 
@@ -152,10 +153,13 @@ far_register =
     pim_packet_text 16 (address 10 8 0 1) rp
     (register_text (header_text [] 15 17 far_source asked_group (length content) ++ content))
 
+abbrev pub claims_far : List ℕ
+claims_far = assert_packet farther_low asked_group far_source (metric_of true 110 22 farther_low)
+
 abbrev pub serving : List Move
 serving =
-    Deliver 0 1 56 7 ∷ Deliver 1 1 56 7 ∷ Deliver 1 0 57 7 ∷ all_to 402452
-    ++ (At 2 (unicast far_register) ∷ Deliver 0 1 58 7 ∷ Deliver 1 1 58 7 ∷ Deliver 1 0 59 7 ∷ all_to 402553)
+    Deliver 0 1 56 7 ∷ Deliver 1 1 56 7 ∷ Deliver 1 0 57 7 ∷ At 0 (frame 0 claims_far) ∷ Deliver 1 0 58 7 ∷ all_to 402452
+    ++ (At 2 (unicast far_register) ∷ Deliver 0 1 59 7 ∷ Deliver 1 1 59 7 ∷ Deliver 1 0 60 7 ∷ all_to 402553)
 
 abbrev pub until_then : List Move
 until_then = settling ++ waiting
@@ -167,14 +171,14 @@ moves = until_then ++ At 1 source_sends ∷ by_register ∷ serving
 abbrev pub senders : List ℕ
 senders =
     0 ∷ 1 ∷ 0 ∷ 0 ∷ 0 ∷ 0 ∷ 1 ∷ 1 ∷ 1 ∷ 1 ∷ 1 ∷ 2 ∷ 1 ∷ 1 ∷ 1 ∷ 0 ∷ 0 ∷ 0 ∷ 1 ∷ 1 ∷ 1 ∷ 1 ∷ 2 ∷ 0 ∷ 0 ∷ 1 ∷ 1 ∷ 1 ∷ 1 ∷ 2 ∷ 0 ∷ 0 ∷ 1 ∷ 1 ∷ 1
-    ∷ 1 ∷ 2 ∷ 0 ∷ 0 ∷ 0 ∷ 1 ∷ 1 ∷ 1 ∷ 1 ∷ 2 ∷ 0 ∷ 0 ∷ 1 ∷ 1 ∷ 1 ∷ 1 ∷ 2 ∷ 0 ∷ 1 ∷ 1 ∷ 2 ∷ 0 ∷ 2 ∷ 0 ∷ 1 ∷ []
+    ∷ 1 ∷ 2 ∷ 0 ∷ 0 ∷ 0 ∷ 1 ∷ 1 ∷ 1 ∷ 1 ∷ 2 ∷ 0 ∷ 0 ∷ 1 ∷ 1 ∷ 1 ∷ 1 ∷ 2 ∷ 0 ∷ 1 ∷ 1 ∷ 2 ∷ 0 ∷ 0 ∷ 2 ∷ 0 ∷ 1 ∷ []
 
 abbrev pub traffic : Traffic
 traffic = record {
   sent = λ k. if nat_le k 3 then 268000 else if nat_le k 12 then 271001 else if nat_le k 15 then 271500
       else if nat_le k 16 then 272500 else if nat_le k 23 then 281250 else if nat_le k 30 then 301001 else if nat_le k 37 then 331001
       else if nat_le k 38 then 337008 else if nat_le k 45 then 361001 else if nat_le k 52 then 391001 else if nat_le k 53 then 397008
-      else if nat_le k 57 then 402351 else 402452;
+      else if nat_le k 58 then 402351 else 402452;
   by = λ k. unwrap_or (slice_get senders (k - 1)) 1;
 }
 

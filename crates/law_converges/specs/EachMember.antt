@@ -5,7 +5,7 @@ use Rattle.std.{specs.{List.AllByRecursion, Prelude.{List, Some, [], false, map,
 use Rattle.pim_types.{specs.Keys.source_key}
 use Rattle.pim_model.{specs.{Full.source_is_full, Network.{Move, Network, Station, station_at}, Receivers.local_receiver_exclude, Sets.spt_bit, State.is_own, Unicast.is_rpf_interface}}
 use Rattle.law_streams.{specs.InTimeJoins.{IsHeld, Star}}
-use Rattle.law_converges.{specs.{AloneOnLink.{AreMembers, ComesDownTheWay}, Carried.{Arrivals, EachMove, Traffic}, CarriedNetwork.{HopOn, IsQuietPlan, Lan, Plan, number_of}, CarriedWays.{forwarders, pair_on, root_of}, ComesOnce.{AllCameDown, AreServedOnce}, JoinedWays.a_hop, LinkDr.Member, MemberLinks.{ServesMember, Unbeaten, to_hosts}, Past.{ArePast, HoldsPast, HoldsPastOn}, RoutesToRp.{AllCanJoin, AreRpf, RoutesLead, Routing, heard_by, hops_up}, Settles.routers, Unheard.{HearsNone, HearsNoPrune}}}
+use Rattle.law_converges.{specs.{AloneOnLink.{AreMembers, ComesDownTheWay}, Carried.{Arrivals, EachMove, Traffic}, CarriedNetwork.{HopOn, IsQuietPlan, Lan, Plan, number_of}, CarriedWays.{forwarders, pair_on, root_of}, ComesOnce.{AllCameDown, AreServedOnce}, JoinedWays.a_hop, LinkDr.Member, MemberLinks.{ServesMember, Unbeaten, to_hosts}, Past.{ArePast, HoldsPast, HoldsPastOn}, RoutesToRp.{AllCanJoin, AreRpf, RoutesLead, Routing, heard_by, hops_up}, Settles.routers, Unheard.{HearsNoBetter, HearsNoPrune}}}
 
 -- ---- what is asked
 
@@ -23,10 +23,10 @@ pub record TakesOnTree (g src : ℕ) (y : Member) (n : Network) : Type 0 where
   pub on_tree : (spt_bit station.state g src && not (is_rpf_interface station.state src y.iface)) ≡ false
   pub room : source_is_full station.state g src ≡ false
 
--- so it is with the lower router of a hop from a limit on, and the upper one hears no Assert of the source, and no Prune of it
+-- so it is with the lower router of a hop from a limit on, and the upper one hears no better Assert of the source, and no Prune of it
 pub record HopIsFree (g src bound limit : ℕ) (started : ℕ → ℕ) (n : Network) (ms : List Move) (h : HopOn) : Type 0 where
   pub takes : HoldsPast started limit (TakesOnTree g src h.lower) n ms
-  pub unheard : HearsNone (source_key (h.upper).iface g src) bound started (h.upper).router n ms
+  pub unlost : HearsNoBetter (source_key (h.upper).iface g src) bound started (h.upper).router n ms
   pub unpruned : HearsNoPrune g src bound started h.upper n ms
 
 -- each next hop is on another link than the one before
@@ -51,7 +51,7 @@ pub record IsReached (g src d lag bound limit k : ℕ) (started : ℕ → ℕ) (
   pub apart : AreApart (number_of a) (h ∷ hs)
   pub by : heard_by d lag bound + k * a_hop d lag ≤ limit
   pub unbeaten : Unbeaten g bound started n ms a x
-  pub unheard : HearsNone (source_key x.iface g src) bound started x.router n ms
+  pub unlost : HearsNoBetter (source_key x.iface g src) bound started x.router n ms
   pub included : HoldsPast started limit (IsIncluded g src x) n ms
   pub free : AllByRecursion (HopIsFree g src bound limit started n ms) (h ∷ hs)
 

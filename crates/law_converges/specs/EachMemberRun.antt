@@ -4,7 +4,8 @@ use Rattle.pim_runs.{specs.{Base.rp, InTime.started, ServedChain.asked_group}}
 use Rattle.law_converges.{specs.{CarriedNetworkRun.{before, bound, far_source, lag, limit, low_lan, moves, nearer_on_low, soon, traffic}, CarriedWays.root_of, CarriedWaysRun.its_hop, ComesOnce.AllCameDown, EachMember.{IsReached, IsServed, NoneBeaten}, MemberLinks.to_hosts, MemberLinksRun.{farther_on_own, other_hop, own_lan, served_plan}, Past.HoldsPastOn, RoutesToRpRun.routing}}
 
 -- The winner of the assert serves the one, and the DR of the second router's own link the other; by the routes of both the RP is one hop
--- away. No Assert of the group comes on the second LAN, none of the source anywhere, and nobody prunes the source.
+-- away. The winner hears an Assert of the group, and one of the source, and neither is better than its own; no other comes on the way, and
+-- nobody prunes the source.
 abbrev pub BothAreReached : Type 0
 BothAreReached =
     NoneBeaten asked_group bound started routing before moves

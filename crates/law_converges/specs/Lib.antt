@@ -3,17 +3,21 @@ pub mod LinkDr
 pub mod NextHopRun
 pub mod LinkQuerier
 pub mod LeftGroups
+pub mod LeftLinks
+pub mod LeftLinksRun
 pub mod LeftGroupRun
 pub mod LinkDrRun
 pub mod LinkQuerierRun
 pub mod LinkMembers
 pub mod LinkMembersRun
 pub mod LinkAsserts
+pub mod Asserting
 pub mod LinkLosers
 pub mod OneSender
 pub mod OneSenderRun
 pub mod LinkLosersRun
 pub mod LinkAssertsRun
+pub mod AssertingRun
 pub mod LinkJoins
 pub mod LinkJoinsRun
 pub mod JoinedWays
@@ -25,6 +29,7 @@ pub mod LinkRptOrder
 pub mod Past
 pub mod Carried
 pub mod CarriedLinks
+pub mod TwoWinners
 pub mod CarriedPrunes
 pub mod Settles
 pub mod CarriedNetwork
@@ -38,6 +43,7 @@ pub mod MemberLinks
 pub mod AloneOnLink
 pub mod EachMember
 pub mod CarriedNetworkRun
+pub mod TwoWinnersRun
 pub mod CarriedWaysRun
 pub mod RoutesToRpRun
 pub mod ComesOnceRun

@@ -4,7 +4,7 @@ use Rattle.std.{specs.Prelude.{List, [], false, ℕ, ◌∷◌, ◌≡◌, ◌�
 use Rattle.pim_types.{specs.Keys.star_key}
 use Rattle.pim_model.{specs.Network.{Move, Network}}
 use Rattle.law_streams.{specs.{InTimeJoins.{Star, Wants}, Passing.{Receiver, Tree}}}
-use Rattle.law_converges.{specs.{Carried.{Arrivals, Traffic}, CarriedNetwork.{Claim, HopOn, IsOneLan, IsQuietPlan, Lan, Plan, number_of}, ComesOnce.Forwarder, LinkDr.{IsOne, Member, is_preferred}, Past.HoldsPast, Settles.routers, Unheard.HearsNone}}
+use Rattle.law_converges.{specs.{Carried.{Arrivals, Traffic}, CarriedNetwork.{Claim, HopOn, IsOneLan, IsQuietPlan, Lan, Plan, number_of}, ComesOnce.Forwarder, LinkDr.{IsOne, Member, is_preferred}, Past.HoldsPast, Settles.routers, Unheard.HearsNoBetter}}
 
 -- ---- who serves a link
 
@@ -30,9 +30,9 @@ pub record ServesMember (g : ℕ) (lans : List Lan) (a : Lan) (x : Member) : Typ
   pub member : IsOneGroup (a.link).groups g
   pub serves : Serves g a x
 
--- A router of a link loses no assert of the group there: it hears none, or it wins one that another router of the link has lost.
+-- A router of a link loses no assert of the group there: it hears no better one, or it wins one that another router of the link has lost.
 pub data Unbeaten (g bound : ℕ) (started : ℕ → ℕ) (n : Network) (ms : List Move) (a : Lan) (y : Member) : Type 0 where
-  Undisputed : HearsNone (star_key y.iface g) bound started y.router n ms → Unbeaten g bound started n ms a y
+  NoneBetter : HearsNoBetter (star_key y.iface g) bound started y.router n ms → Unbeaten g bound started n ms a y
   Winner : (c : Claim) (z : Member) → IsOneClaim a.claims c → c.group ≡ g → c.source ≡ 0 → c.winner ≡ y → IsOne c.losers z
       → Unbeaten g bound started n ms a y
 

@@ -1,9 +1,11 @@
 //! Two routers send the same packets on a link.
 
+ghost use Rattle.law_converges.specs.Asserting.{DuplicateIsAnswered, InferiorIsAnswered};
 ghost use Rattle.law_converges.specs.LinkAsserts.{GivesWayToAssert, OneWinnerIsLeft, WinnerAnswersAssert};
 ghost use Rattle.law_converges.specs.LinkLosers.{EventKeepsLoss, LoserComesToStay, LoserStaysLoser};
 ghost use Rattle.law_converges.specs.Unheard.{LostAssertEnds};
 ghost use Rattle.law_converges.specs.OneSender.{AtMostOneComesToSend, AtMostOneSends, LoserSendsNone};
+ghost use Rattle.law_converges.specs.TwoWinners.{OneWinnerGoes};
 
 /// A router that gives way to an Assert has lost the assert to it until 180 s after its present time, or has no assert any
 /// more, where it must go. A winner gives way to a better metric than that with which it won; a loser to a better one, and
@@ -24,6 +26,28 @@ pub fn winner_answers_assert()
 /// until 180 s after its present time, or has no assert, where it must go. The group isn't link-local.
 pub fn one_winner_is_left()
     ensures { OneWinnerIsLeft }
+{}
+
+/// A packet that comes on an interface on which the router itself sends its source's packets is answered by an Assert, in that event: of
+/// (S,G) where SPTbit is set, else of (*,G). The packet's RPF check fails there, the interface is on the list, and the router could
+/// assert there, and has no assert. It is the winner then for 177 s, or has no assert, where that must go. So of two routers that send
+/// a source's packets on a link each that hears the other's asserts.
+pub fn duplicate_is_answered()
+    ensures { DuplicateIsAnswered }
+{}
+
+/// An Assert that is worse than the router's own is answered by that, in that event, where the router could assert and has no assert; as
+/// by `WinnerAnswersAssert` where it is the winner. It is the winner then for 177 s, or has no assert, where that must go.
+pub fn inferior_is_answered()
+    ensures { InferiorIsAnswered }
+{}
+
+/// Two routers of a link aren't both the winner of an assert any longer than until 2 d after the Assert Timer of that with the better
+/// metric expires: of each of any moves after which both are the winner, as after all before it, the other one's time is at most that.
+/// All that is sent on the link comes to all of it within d, and no timer is more than d late; the other one hears the first one, and
+/// has room. The timer of a winner runs for 177 s, after which it asserts again.
+pub fn one_winner_goes()
+    ensures { OneWinnerGoes }
 {}
 
 /// A router that has lost an assert until a timestamp at least still has after an event that leaves its present time before
@@ -68,8 +92,10 @@ pub fn at_most_one_comes_to_send()
     ensures { AtMostOneComesToSend }
 {}
 
-/// From the end of its Assert Timer on a lost assert is over, while no Assert comes that its machine may read: of a source's assert
-/// one of the source, of a group's one with RPTbit set. The timer of a loser runs for 180 s at most.
+/// From the end of its Assert Timer on a lost assert is over, while no Assert comes by which its machine loses, or has lost for longer:
+/// in NoInfo one that is acceptable, of (S,G) with RPTbit clear, where the assert is tracked; as the winner one that is better than
+/// what it won with; as the loser one that is better than its winner's, or an acceptable one of its winner. The timer of a loser runs
+/// for 180 s at most.
 pub fn lost_assert_ends()
     ensures { LostAssertEnds }
 {}

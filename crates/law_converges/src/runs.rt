@@ -1,11 +1,13 @@
 //! Networks that meet the premises of the laws, computed by the kernel.
 ghost use Rattle.law_converges.specs.AloneByAssertRun.{WinnerAloneOnPlan};
+ghost use Rattle.law_converges.specs.AssertingRun.{ClaimIsWorse, NearerAsserts, PacketIsDuplicate};
 ghost use Rattle.law_converges.specs.CarriedNetworkRun.{OverrideComesInOrder, PlanIsQuiet, PlanSettles, PruneHasNoEffect};
 ghost use Rattle.law_converges.specs.CarriedWaysRun.{PlanBringsNothingElse, PlanIsOpen, PlanServesOnce};
 ghost use Rattle.law_converges.specs.ComesOnceRun.{ChainForwards, ChainServesOnce};
 ghost use Rattle.law_converges.specs.EachMemberRun.{BothAreReached, BothAreServed, NothingElseComesToBoth};
 ghost use Rattle.law_converges.specs.JoinedWaysRun.{ChainComesInTime, ChainComesToBeJoined, ChainPassesOnce};
 ghost use Rattle.law_converges.specs.LeftGroupRun.{SilentGroupEnds};
+ghost use Rattle.law_converges.specs.LeftLinksRun.{HostLeaves, HostStays};
 ghost use Rattle.law_converges.specs.LinkAssertsRun.{FartherLoses, NearerAnswers};
 ghost use Rattle.law_converges.specs.LinkDrRun.{BothGreet, OneComesToBeDr};
 ghost use Rattle.law_converges.specs.LinkJoinsRun.{BothComeToBeHeld, BothJoinInTime};
@@ -16,6 +18,7 @@ ghost use Rattle.law_converges.specs.MemberLinksRun.{BothAreWanted, NoOthersSend
 ghost use Rattle.law_converges.specs.OneSenderRun.{FartherSendsNone};
 ghost use Rattle.law_converges.specs.NextHopRun.{OtherTakesOver, RouterTurns};
 ghost use Rattle.law_converges.specs.RoutesToRpRun.{FartherIsHeldToRp, NearerIsServedOnce, RoutesLeadOnPlan};
+ghost use Rattle.law_converges.specs.TwoWinnersRun.{BothWinAtFirst, FartherGoes};
 
 /// The first router of the chain turns from one next hop to another.
 pub fn router_turns()
@@ -30,6 +33,16 @@ pub fn other_takes_over()
 /// A host asks for a group, and is silent from then on, so that the group is gone after 260 s.
 pub fn silent_group_ends()
     ensures { SilentGroupEnds }
+{}
+
+/// So the source's packets are copied to its link for 260 s, and not from then on.
+pub fn host_leaves()
+    ensures { HostLeaves }
+{}
+
+/// Where it asks again after 200 s they still are, and it has asked for them within the last 260 s.
+pub fn host_stays()
+    ensures { HostStays }
 {}
 
 /// Two routers of the chain greet each other in time.
@@ -112,6 +125,21 @@ pub fn prune_has_no_effect()
     ensures { PruneHasNoEffect }
 {}
 
+/// A packet comes to the nearer one on the link to which it sends the group's packets itself.
+pub fn packet_is_duplicate()
+    ensures { PacketIsDuplicate }
+{}
+
+/// So does an Assert that is worse than its own.
+pub fn claim_is_worse()
+    ensures { ClaimIsWorse }
+{}
+
+/// By either it asserts.
+pub fn nearer_asserts()
+    ensures { NearerAsserts }
+{}
+
 /// The nearer one's next Assert comes to the farther one within a second.
 pub fn nearer_asserts_in_time()
     ensures { NearerAssertsInTime }
@@ -182,6 +210,16 @@ pub fn chain_forwards()
 /// So a packet that a Register brings to the RP is on the host's link, two routers further, in exactly one frame.
 pub fn chain_serves_once()
     ensures { ChainServesOnce }
+{}
+
+/// On the first of the two LANs both routers take themselves for the winner of the group's assert to begin with.
+pub fn both_win_at_first()
+    ensures { BothWinAtFirst }
+{}
+
+/// So one of them goes by 200 ms after the Assert Timer of the nearer one expires.
+pub fn farther_goes()
+    ensures { FartherGoes }
 {}
 
 /// The assert's loser hears the packet on the other LAN, and the winner alone sends it on the host's.

@@ -1,5 +1,5 @@
 -- An event's own change leaves a fine state, and so does what follows from it.
-use Rattle.std.{proofs.{Common.{ℕ, ◌+◌, ◌==◌, Bool, List, true, false, arith, ◌∙◌, ◌≡◌, refl, ap, not, ◌&&◌}, lemmas.Bool.{or_left, or_right}}}
+use Rattle.std.proofs.{Common.{ℕ, ◌+◌, ◌==◌, Bool, true, false, arith, ◌∙◌, ◌≡◌, refl, ap, not, ◌&&◌}, lemmas.Bool.{or_left, or_right}}
 use Rattle.pim_types.{proofs.Keys.same_key_same, specs.{declared.{config.RpTable.RpTable, fact.InterfaceRow.InterfaceRow}, Keys.{iface_key, is_on, iface_in, same_key}}}
 use Rattle.pim_wire.{specs.{RegisterParts.{is_null, registered_group, registered_source}, Values.Register}}
 use Rattle.pim_model.{specs.{declared.accepted.Accepted.Accepted, Forwarding.{Forwarded, register_received}, State.{State, is_up}, Step.{Change, change, decapsulated, done, iface_down, iface_up, rps_replaced}, Tables.{delay_in, drop_where, put, has_row}}}

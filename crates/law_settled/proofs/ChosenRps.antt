@@ -1,7 +1,7 @@
 -- Which RP a group has: candidates are chosen in one order, which is strict.
-use Rattle.std.{proofs.{Common.{◌≡◌, ◌==◌, ◌&&◌, ◌||◌, ℕ, Bool, true, false, not, nat_lt, List, [], ◌∷◌, Option, Some, None, refl, sym, ap, subst, ◌∙◌, arith}, lemmas.Bool.Decides.nat_tests}, specs.{List.{list_all, list_any}, Prelude.{if◌then◌else◌, option_map}}}
+use Rattle.std.{proofs.{Common.{◌≡◌, ◌&&◌, ◌||◌, ℕ, Bool, true, false, not, nat_lt, List, [], ◌∷◌, Option, Some, None, refl, ap, subst, ◌∙◌, arith}, lemmas.Bool.Decides.nat_tests}, specs.{List.{list_all, list_any}, Prelude.{if◌then◌else◌, option_map}}}
 use Rattle.pim_ip.{specs.{Ipv4.is_source_specific, Prefixes.{contains, longest_match}}}
-use Rattle.pim_types.{specs.declared.config.{RpCandidate.RpCandidate, RpRange.RpRange, RpTable.RpTable}}
+use Rattle.pim_types.specs.declared.config.{RpCandidate.RpCandidate, RpRange.RpRange}
 use Rattle.pim_model.{specs.{Candidates.{candidate_value, chosen, chosen_among, hash_value, is_chosen, or_else}, Unicast.{nearer_rp, rp_among}}}
 use Rattle.law_settled.{specs.Choices.{FirstIsChosen, IsFirst, LongestMatchDecides, NoneIsChosen, ValuesAsPrinted, is_before}}
 

@@ -1,5 +1,5 @@
 -- Which RP a group has, of RP ranges and candidates (RFC 7761, sections 4.7.1 and 4.7.2).
-use Rattle.std.{specs.{List.{list_all, list_any}, Prelude.{Bool, List, None, Option, Some, [], false, if◌then◌else◌, not, option_map, true, ℕ, ◌&&◌, ◌≡◌}}}
+use Rattle.std.specs.{List.{list_all, list_any}, Prelude.{Bool, List, None, Some, [], false, if◌then◌else◌, not, option_map, true, ℕ, ◌&&◌, ◌≡◌}}
 use Rattle.pim_ip.{specs.{Ipv4.is_source_specific, Prefixes.{contains, longest_match}}}
 use Rattle.pim_types.{specs.declared.config.{RpCandidate.RpCandidate, RpRange.RpRange, RpTable.RpTable}}
 use Rattle.pim_model.{specs.{Candidates.{chosen_among, hash_value, is_chosen}, Unicast.rp_among}}

@@ -4,7 +4,7 @@ use Rattle.pim_types.{specs.declared.{event.{Event.Event, EventKind.EventKind}, 
 use Rattle.pim_model.{specs.{declared.accepted.Accepted.Accepted, Cause.done_as, Downstream.is_named, Full.is_full, Network.{Move, Network, Sent, Station, event_of, frame_at, moved, station_at}, State.{State, is_up, my_address}, Step.step}}
 use Rattle.law_settled.{proofs.Unsettled.{Unsettled, settling_leaves}}
 use Rattle.law_events.{specs.Rest.IsAtRest}
-use Rattle.law_streams.{specs.{Copies.happens, Joins.{Hears, HoldsTree, IsWritable, join_packet, join_value}, InTimeJoins.{Always, AreInTime, AreThere, ComesToBoth, HoldsTo, IsBy, IsHeldSoon, IsJoin, IsReady, IsRp, Join, Pair, entry_of, is_suppressed, join_key, prunes_it, prunes_of, time_at}, Shared.{AreOnLink, ComesFrom, FramesComeToBoth, IsAbove, IsOnLink, IsSeenFrom, IsTakenFrom, JoinSuppresses, frame_from}}, proofs.{EndSoon.{change_present, no_later, there}, Walks.event_walks, Deliveries.{IsStepped, is_delivered}, Passes.done_if, ReadBack.join_is_seen, Pairs.{Steps, frame_stays, one_router, ready_then, same_station}, Upper.{join_event, joined_so, now_held, same_now, still_held}}}
+use Rattle.law_streams.{specs.{Copies.happens, Joins.{Hears, HoldsTree, IsWritable, join_packet, join_value}, InTimeJoins.{Always, AreInTime, AreThere, ComesToBoth, HoldsTo, IsBy, IsHeldSoon, IsJoin, IsReady, IsRp, Join, Pair, entry_of, is_suppressed, join_key, prunes_it, prunes_of, time_at}, Shared.{AreOnLink, ComesFrom, FramesComeToBoth, IsAbove, IsSeenFrom, IsTakenFrom, JoinSuppresses, frame_from}}, proofs.{EndSoon.{change_present, no_later, there}, Walks.event_walks, Deliveries.{IsStepped, is_delivered}, Passes.done_if, ReadBack.join_is_seen, Pairs.{Steps, frame_stays, one_router, ready_then, same_station}, Upper.{join_event, joined_so, now_held, same_now, still_held}}}
 
 -- ---- a Join of another is seen
 

@@ -2,8 +2,8 @@
 use Rattle.std.{proofs.{Common.{◌≡◌, ℕ, ◌≤◌, Bool, true, false, not, nat_le, nat_lt, ◌&&◌, ◌==◌, List, [], ◌∷◌, ◌++◌, filter, length, map, refl, sym, ap, ◌∙◌, arith}, lemmas.{Bool.Decides.nat_tests, List.length-append}}, specs.{List.{list_all, list_any}}}
 use Rattle.pim_ip.{specs.declared.addr.Prefix.Prefix}
 use Rattle.pim_types.{specs.declared.config.RpRange.RpRange}
-use Rattle.pim_model.{specs.Limits.{are_distinct, are_rps, is_rp_range, most_rps, same_prefix}}
-use Rattle.pim_bsr.{specs.{Choice.{is_beaten_by, is_better, is_chosen, lower_or, range_value}, Sound.{AreSound, GivenIsAccepted, IsSoundTable, are_apart}, Table.{Table, fitting, given_of, is_configured, is_given, kept_count, range_of, ranges_by, room_beside, same_range}, declared.{choice.Choice.Choice, learned.Learned.Learned}}, proofs.{Lists.{and_both, and_first, and_second, both_pass, fewer, first_fails, first_passes, length-map_of, map_both, neither, not_false, not_true, or_first, or_second, same_by}, Sounder.fitting_sound}}
+use Rattle.pim_model.specs.{Candidates.or_else, Limits.{are_distinct, are_rps, is_rp_range, most_rps, same_prefix}}
+use Rattle.pim_bsr.{specs.{Choice.{is_beaten_by, is_better, is_chosen, range_value}, Sound.{AreSound, GivenIsAccepted, IsSoundTable, are_apart}, Table.{Table, fitting, given_of, is_configured, is_given, kept_count, range_of, ranges_by, room_beside, same_range}, declared.{choice.Choice.Choice, learned.Learned.Learned}}, proofs.{Lists.{and_both, and_first, and_second, both_pass, fewer, first_fails, first_passes, length-map_of, map_both, neither, not_false, not_true, or_first, or_second, same_by}, Sounder.fitting_sound}}
 
 -- ---- of two RPs of a range one is better
 
@@ -12,7 +12,7 @@ total : (a b : Learned) → is_better a b ≡ false → is_better b a ≡ false 
 unfolding is_better
 total a b e f = decided a.priority b.priority (range_value a) (range_value b) a.rp.bits b.rp.bits e f
   where
-    decided : (p q v w x y : ℕ) → lower_or p q (lower_or w v (nat_lt y x)) ≡ false → lower_or q p (lower_or v w (nat_lt x y)) ≡ false
+    decided : (p q v w x y : ℕ) → or_else p q (or_else w v (nat_lt y x)) ≡ false → or_else q p (or_else v w (nat_lt x y)) ≡ false
         → x ≡ y
     decided p q v w x y e f = grind (arith, nat_tests, e, f)
 

@@ -1,7 +1,7 @@
 -- Which messages count, and where they are sent on.
 use Rattle.std.{proofs.{Common.{◌≡◌, ℕ, zero, suc, ◌+◌, ◌<◌, ◌≤◌, Bool, true, false, not, cond, nat_lt, ◌&&◌, ◌==◌, List, ◌∷◌, filter, Option, Some, None, refl, sym, ap, ◌∙◌, arith, inl, inr}, lemmas.Bool.{cases_lt, Decides.nat_tests}}, specs.{List.range_with_len, Prelude.if◌then◌else◌}}
 use Rattle.pim_bootstrap.{specs.Bootstraps.Bootstrap}
-use Rattle.pim_bsr.{specs.{Hearing.{Around, has_room, heard, heard_if, is_repeated, is_sent_on, room_or, sent_on, takes_memory, why_not, why_sender}, Laws.{CameFromRpf, SentOnOnce, WasPreferred, is_taken, times_in}, Table.{Known}, declared.{heard.Why.Why}}}
+use Rattle.pim_bsr.{specs.{Hearing.{Around, has_room, heard, heard_if, is_repeated, is_sent_on, room_or, sent_on, takes_memory, why_checked, why_not, why_sender}, Laws.{CameFromRpf, SentOnOnce, WasPreferred, is_taken, times_in}, Table.{Known}, declared.{heard.Why.Why}}}
 
 -- a message counts where no test fails
 pub counts : (s : Around) (k : Known) (i src : ℕ) (b : List ℕ) (m : Bootstrap) → is_taken (heard s k i src b m).answer ≡ true
@@ -34,12 +34,12 @@ memory_taken s k i src b m none = go (why_sender s k i src m) none (has_room s k
     go (Some why) e room = cc
 
 pub came_from_rpf : CameFromRpf
-unfolding why_sender
+unfolding why_checked why_sender
 came_from_rpf s k i src b m h forward =
     let none = from_sender s k i src b m h in grind (arith, none, forward)
 
 pub was_preferred : WasPreferred
-unfolding why_sender
+unfolding why_checked why_sender
 was_preferred s k i src b m e h elected =
     let none = from_sender s k i src b m h in grind (arith, none, elected)
 

@@ -10,6 +10,7 @@ pub mod JoinedLaws
 mod Lasting
 pub mod Lists
 mod Others
+mod Own
 pub mod Ranges
 mod Same
 pub mod Sounder

@@ -2,9 +2,9 @@
 use Rattle.std.{proofs.{Common.{◌≡◌, ℕ, zero, suc, ◌+◌, ◌-◌, ◌*◌, ◌/◌, ◌%◌, ◌^◌, ◌<◌, ◌≤◌, Bool, true, false, not, nat_le, ◌==◌, List, [], ◌∷◌, ◌++◌, filter, fold, length, map, take, Option, Some, None, Result, Ok, Err, refl, sym, ap, subst, ◌∙◌, arith, pow-add}, Math.Nat.{div-div-eq-div-mul, mul-div_cancel, mul-mod_left}, lemmas.{Bool.Decides.nat_tests, Nat.pow_pos, List.{Elements.{All-head, All-tail}}}}, specs.{List.{All, list_all, list_any}, Prelude.if◌then◌else◌}}
 use Rattle.pim_ip.{specs.{Ipv4.{Packet, ipv4_reading, is_multicast, is_unicast}, Prefixes.is_host_clear, declared.{addr.Prefix.Prefix, refusal.Refusal.Refusal}}}
 use Rattle.pim_types.{specs.declared.config.RpRange.RpRange}
-use Rattle.pim_model.{specs.{Limits.{is_rp_range, same_prefix}}}
+use Rattle.pim_model.specs.{Candidates.masked, Limits.{is_rp_range, same_prefix}}
 use Rattle.pim_bootstrap.{specs.{declared.bootstrap.CandidateRp.CandidateRp, Bootstraps.{AreTested, Bootstrap, BootstrapRange, IsHost, IsTested, bootstrap_reading}}, proofs.Tested.read_is_tested}
-use Rattle.pim_bsr.{specs.{Choice.masked, Hearing.{Around, after_message, has_room, heard, heard_frame, heard_if, heard_packet, heard_read, heard_reading, is_bootstrap, room_or, unheard, why_not, why_sender}, Sound.{AreSound, IsSound, IsSoundTable, SoundConfigured, SoundInTime, SoundStays, SoundWhateverComes, are_apart, has_mask}, Table.{Known, MessageId, Table, at_time, completed, configured, emptied, fitting, has_holdtime, has_prefix, is_part_of, is_tagged, kept_count, learned_of, masks_after, message_id, part_of, part_range, parts_after, range_of, range_prefix, room_beside, runs, same_range, waiting, waits, with_mask, with_message, with_part, with_range, with_ranges, without, without_parts}, declared.{heard.{Heard.Heard, Why.Why}, learned.{Learned.Learned, Part.Part}}}, proofs.{Lists.{and_both, and_fails, and_first, and_second, both_pass, fewer, first_few, first_pass, map_both, neither, not_false, not_true, or_first, or_second, passes_other, some_pass}, Values.{Hold, brings, masks_hold, ranges_hold}}}
+use Rattle.pim_bsr.{specs.{Hearing.{Around, after_message, has_room, heard, heard_frame, heard_if, heard_packet, heard_read, heard_reading, is_bootstrap, room_or, unheard, why_not, why_sender}, Sound.{AreSound, IsSound, IsSoundTable, SoundConfigured, SoundInTime, SoundStays, SoundWhateverComes, are_apart, has_mask}, Table.{Known, MessageId, Table, at_time, completed, configured, emptied, fitting, has_holdtime, has_prefix, is_part_of, is_tagged, kept_count, learned_of, masks_after, message_id, part_of, part_range, parts_after, range_of, range_prefix, room_beside, runs, same_range, waiting, waits, with_mask, with_message, with_part, with_range, with_ranges, without, without_parts}, declared.{heard.{Heard.Heard, Why.Why}, learned.{Learned.Learned, Part.Part}}}, proofs.{Lists.{and_both, and_fails, and_first, and_second, both_pass, fewer, first_few, first_pass, map_both, neither, not_false, not_true, or_first, or_second, passes_other, some_pass}, Values.{Hold, brings, masks_hold, ranges_hold}}}
 
 -- ---- some members of a sound list
 
@@ -208,7 +208,6 @@ two_positive : (n : ℕ) → 0 < 2 ^ n
 two_positive n = pow_pos n
 
 masked_multicast : (len g : ℕ) → 4 ≤ len → len ≤ 32 → is_multicast g ≡ true → is_multicast (masked len g) ≡ true
-unfolding masked
 masked_multicast len g low high is =
     let d : ℕ = 2 ^ (32 - len) in
     let e : ℕ = 2 ^ (len - 4) in
@@ -224,7 +223,6 @@ masked_multicast len g low high is =
     ap (λ (n : ℕ). n == 14) same ∙ is
 
 cleared : (len g : ℕ) → masked len g % 2 ^ (32 - len) ≡ 0
-unfolding masked
 cleared len g = mul-mod_left (g / 2 ^ (32 - len)) (2 ^ (32 - len))
 
 host_unicast : (c : CandidateRp) → IsHost c → is_unicast c.address.bits ≡ true

@@ -86,16 +86,23 @@ after_message now k bytes m = record k {
 abbrev pub has_room : Around → Known → Bootstrap → Bool
 has_room s k m = nat_le (kept_count (with_message s.present k.table m)) (room k)
 
--- why a message isn't acceptable by its sender and its BSR, by the first test that fails (3.1.3, 3.1.4)
-unfoldable pub why_sender : Around → Known → ℕ → ℕ → Bootstrap → Option Why
-why_sender s k i src m =
+-- why a message isn't acceptable by its sender, by the first test that fails (3.1.3); else as a later test says
+unfoldable pub why_checked : Around → Known → ℕ → ℕ → Bootstrap → Option Why → Option Why
+why_checked s k i src m later =
     if s.own m.bsr then Some Why.OwnBsr
     else (if not (s.neighbour i src) then Some Why.NoNeighbour
     else (if is_scoped m.ranges then Some Why.Scoped
     else (if m.no_forward && not (may_refresh s k) then Some Why.LateRefresh
     else (if not m.no_forward && not (is_from_rpf s i src m) then Some Why.NotFromRpf
-    else (if not (may_elect k.elected m) then Some Why.NotPreferred
-    else None)))))
+    else later))))
+
+-- its BSR isn't preferred to the elected one (3.1.4)
+abbrev pub why_weight : Known → Bootstrap → Option Why
+why_weight k m = if not (may_elect k.elected m) then Some Why.NotPreferred else None
+
+-- why a message isn't acceptable by its sender and its BSR
+unfoldable pub why_sender : Around → Known → ℕ → ℕ → Bootstrap → Option Why
+why_sender s k i src m = why_checked s k i src m (why_weight k m)
 
 -- a further test: whether there is room
 abbrev pub room_or : Bool → Option Why → Option Why

@@ -8,6 +8,7 @@ pub mod Runs
 pub mod Saved
 pub mod SavedRuns
 pub mod Sound
+pub mod Standing
 pub mod Table
 pub mod Text
 pub mod Views

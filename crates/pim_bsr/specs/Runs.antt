@@ -2,9 +2,9 @@
 use Rattle.std.{specs.Prelude.{◌≡◌, ℕ, Option, ◌==◌, ◌&&◌, ◌||◌, false, true, List, [], ◌∷◌, None, Some, filter, map}}
 use Rattle.pim_ip.{specs.{Addr.addr, declared.addr.Prefix.Prefix}}
 use Rattle.pim_types.{specs.declared.{config.{RpCandidate.RpCandidate, RpRange.RpRange}, event.EventKind.EventKind}}
-use Rattle.pim_model.{specs.Unicast.rp_among}
+use Rattle.pim_model.specs.{Candidates.hash_value, Unicast.rp_among}
 use Rattle.pim_bootstrap.{specs.{declared.bootstrap.CandidateRp.CandidateRp, Bootstraps.{Bootstrap, BootstrapRange}}}
-use Rattle.pim_bsr.{specs.{Choice.hash_value, Hearing.{Around, after_message, heard}, Joined.{event, loses, time_given}, Laws.{AllLeave, Happening, all_after, is_candidate_at, is_range_at}, Table.{Known, at_time, candidates, choosing, configured, given}, declared.{choice.Choice.Choice, heard.{Heard.Heard, Why.Why}}}}
+use Rattle.pim_bsr.{specs.{Hearing.{Around, after_message, heard}, Joined.{event, loses, time_given}, Laws.{AllLeave, Happening, all_after, is_candidate_at, is_range_at}, Standing.with_own, Table.{Known, at_time, candidates, choosing, configured, given}, declared.{choice.Choice.Choice, heard.{Heard.Heard, Why.Why}, learned.Learned.Learned}}}
 
 -- the values that FRR 8.4.4 prints (`show ip pim bsrp-info`) for 239.0.0.0/8 with a mask of 30 bits and the RPs 10.99.0.1,
 -- 10.88.0.9 and 10.77.0.2
@@ -221,3 +221,23 @@ AsOfferedLeft =
     AllLeave eight 151000 by_group others
     × (filter (is_candidate_at eight) (candidates (all_after by_group others))
     ≡ offered 0x0A58_0009 ∷ offered 0x0A4D_0002 ∷ offered 0x0A63_0001 ∷ [])
+
+-- ---- the router's own messages
+
+-- what is known after the router itself said two RPs at 1 s, with room for so many
+abbrev pub said_with : ℕ → Known
+said_with limit =
+    with_own 1000 (record start { limit = limit })
+    (message 7 (wide 2 (candidate 0x0A58_0009 150 ∷ candidate 0x0A4D_0002 150 ∷ []) ∷ []))
+
+abbrev pub addresses : Known → List ℕ
+addresses k = map (λ (l : Learned). l.rp.bits) k.table.rps
+
+-- It learns them, and is the elected BSR for 130 s. Without room for both it learns none, and is the BSR all the same.
+abbrev pub AsOwn : Type 0
+AsOwn =
+    (addresses (said_with 2) ≡ 0x0A58_0009 ∷ 0x0A4D_0002 ∷ [])
+    × (addresses (said_with 1) ≡ [])
+    × ((said_with 2).elected ≡ Some (record { bsr = addr 0x0A00_0009; priority = 10; end = 131000 }))
+    × ((said_with 1).elected ≡ Some (record { bsr = addr 0x0A00_0009; priority = 10; end = 131000 }))
+    × ((said_with 1).heard ≡ true)

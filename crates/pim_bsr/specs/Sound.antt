@@ -3,7 +3,7 @@ use Rattle.std.{specs.{List.{list_all, list_any}, Prelude.{Ok, ◌≡◌, ℕ, �
 use Rattle.pim_types.{specs.declared.config.RpRange.RpRange}
 use Rattle.pim_model.{specs.{Limits.{are_rps, is_rp_range}}}
 use Rattle.pim_bootstrap.{specs.Bootstraps.{Bootstrap, bootstrap_reading}}
-use Rattle.pim_bsr.{specs.{Hearing.{Around, heard, heard_frame}, Table.{Known, Table, at_time, configured, given, kept_count, part_range, range_of, room_beside, same_range}, declared.learned.{Learned.Learned, Part.Part}}}
+use Rattle.pim_bsr.{specs.{Hearing.{Around, heard, heard_frame}, Standing.own_taken, Table.{Known, Table, at_time, configured, given, kept_count, part_range, range_of, room_beside, same_range}, declared.learned.{Learned.Learned, Part.Part}}}
 
 -- no RP of a range stands twice
 unfoldable pub are_apart : List RpRange → Bool
@@ -47,6 +47,10 @@ SoundStays =
 -- what is known stays sound whatever packet comes
 abbrev pub SoundWhateverComes : Type 0
 SoundWhateverComes = (s : Around) (k : Known) (i : ℕ) (bytes : List ℕ) → IsSound k → IsSound (heard_frame s k i bytes).known
+
+-- what is known stays sound whatever message of the router's own is taken
+abbrev pub OwnSoundStays : Type 0
+OwnSoundStays = (now : ℕ) (k : Known) (b : List ℕ) → IsSound k → IsSound (own_taken now k b)
 
 -- what is known stays sound with another limit and other configured ranges
 abbrev pub SoundConfigured : Type 0

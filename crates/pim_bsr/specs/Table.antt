@@ -1,11 +1,10 @@
--- What a router that is no candidate BSR knows by Bootstraps (RFC 5059, section 3.1): the elected BSR, and the RPs of
--- ranges with their ends. Sections are those of RFC 5059.
+-- What a router knows by Bootstraps (RFC 5059, section 3.1): the elected BSR, and the RPs of ranges with their ends. Sections are those of RFC 5059.
 use Rattle.std.{specs.{List.{list_all, list_any}, Prelude.{ℕ, Bool, false, true, ◌+◌, ◌-◌, ◌*◌, ◌==◌, ◌&&◌, ◌||◌, min, nat_le, nat_lt, not, if◌then◌else◌, List, [], ◌∷◌, ◌++◌, filter, fold, length, map, take, Option, Some, None}}}
 use Rattle.pim_ip.{specs.{Addr.addr, declared.addr.Prefix.Prefix}}
 use Rattle.pim_types.{specs.declared.config.{RpCandidate.RpCandidate, RpRange.RpRange}}
-use Rattle.pim_model.{specs.Limits.{most_rps, same_prefix}}
+use Rattle.pim_model.specs.{Candidates.masked, Limits.{most_rps, same_prefix}}
 use Rattle.pim_bootstrap.{specs.{declared.bootstrap.CandidateRp.CandidateRp, Bootstraps.{Bootstrap, BootstrapRange}}}
-use Rattle.pim_bsr.{specs.{Choice.{is_chosen, masked}, declared.{choice.Choice.Choice, learned.{Elected.Elected, Learned.Learned, Part.Part}}}}
+use Rattle.pim_bsr.{specs.{Choice.is_chosen, declared.{choice.Choice.Choice, learned.{Elected.Elected, Learned.Learned, Part.Part}}}}
 
 -- The RPs in force, and those of messages whose fragments (4.1.1) haven't all come.
 pub record Table : Type 0 where

@@ -1,11 +1,12 @@
 //! Which RP of a range is chosen, and what one is chosen for.
 ghost use Rattle.std.specs.List.{list_any};
-ghost use Rattle.std.specs.Prelude.{◌≡◌, ◌<◌, ◌^◌};
+ghost use Rattle.std.specs.Prelude.{◌≡◌};
 ghost use Rattle.pim_model.specs.Limits.{same_prefix};
-ghost use Rattle.pim_bsr.specs.Choice.{hash_value, is_beaten_by, is_better, is_chosen, masked, range_value};
+ghost use Rattle.pim_bsr.specs.Choice.{is_beaten_by, is_better, is_chosen, range_value};
 
 use crate::learned::Learned;
-use pim_ip::{Addr, Prefix};
+use pim_ip::Prefix;
+use pim_mrib::hash_value;
 
 /// What an RP is chosen for, of several that a range has.
 #[derive(Clone, Copy, PartialEq, Eq, Debug)]
@@ -23,33 +24,16 @@ pub(crate) fn same_prefix(first: Prefix, second: Prefix) -> bool
     first.address.bits == second.address.bits && first.length == second.length
 }
 
-/// The first so many bits of a group; the rest are 0.
-#[tactic(auto, unfolding(crate::specs::Choice::masked))]
-pub(crate) fn masked(length: u8, group: Addr) -> u64
-    ensures value { result ≡ masked length group.bits }
-    ensures small { result < 2 ^ 32 }
-{
-    let host = 1u64 << 32u32.saturating_sub(u32::from(length));
-    let group = u64::from(group.bits);
-    group / host * host
-}
-
-/// The hash function's value for a group and an RP, with a mask of so many bits (RFC 7761, section 4.7.2).
-#[tactic(auto, unfolding(crate::specs::Choice::hash_value))]
-fn hash_value(length: u8, group: Addr, rp: Addr) -> u32
-    ensures { result ≡ hash_value length group.bits rp.bits }
-{
-    let first = 1_103_515_245 * masked(length, group) + 12_345;
-    let mixed = u128::from(first ^ u64::from(rp.bits));
-    ((1_103_515_245 * mixed + 12_345) % 0x8000_0000) as u32
-}
-
 /// The value of an RP at the address of its range.
 #[tactic(auto, unfolding(crate::specs::Choice::range_value))]
 fn range_value(learned: Learned) -> u32
     ensures { result ≡ range_value learned }
 {
-    hash_value(learned.hash_length, learned.prefix.address, learned.rp)
+    hash_value(
+        u32::from(learned.hash_length),
+        learned.prefix.address,
+        learned.rp,
+    )
 }
 
 /// Whether the first of two RPs of a range is better.

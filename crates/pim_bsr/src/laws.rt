@@ -1,9 +1,10 @@
 //! Laws of the definitions, each the contract of a function with nothing to do.
 ghost use Rattle.pim_bsr.specs.Laws.{CameFromRpf, CandidatesAlone, CandidatesAreAccepted, JoinedIsRun, LastsItsTime, OtherRangesStay, RangesAlone, SameEverywhere, SentOnOnce, StaticAlone, StaticFirst, TimeInSteps, WasPreferred, WithoutMessageNothingChanges, WithoutSettingNothingChanges};
-ghost use Rattle.pim_bsr.specs.Runs.{AsEnded, AsHeard, AsLeft, AsMoved, AsOffered, AsOfferedLeft, AsPrinted, AsWorked, BsrsAreApart, MaskIsOfAll};
+ghost use Rattle.pim_bsr.specs.Runs.{AsEnded, AsHeard, AsLeft, AsMoved, AsOffered, AsOfferedLeft, AsOwn, AsPrinted, AsWorked, BsrsAreApart, MaskIsOfAll};
 ghost use Rattle.pim_bsr.specs.Saved.{KnownReadingIsText, KnownTextIsRead, RestoredHavePriorities, RestoredIsSound, SavedIsRestored};
 ghost use Rattle.pim_bsr.specs.SavedRuns.{ByGroupHasBytes, SavedListenerHasBytes, TwiceIsRefused};
-ghost use Rattle.pim_bsr.specs.Sound.{GivenIsAccepted, SoundConfigured, SoundInTime, SoundStays, SoundWhateverComes};
+ghost use Rattle.pim_bsr.specs.Sound.{GivenIsAccepted, OwnSoundStays, SoundConfigured, SoundInTime, SoundStays, SoundWhateverComes};
+ghost use Rattle.pim_bsr.specs.Standing.{OwnIsTaken};
 
 /// Before the first message the router has the configured ranges alone.
 #[tactic(auto, using(crate::proofs::Ranges::static_first))]
@@ -60,6 +61,16 @@ pub fn sound_in_time()
 /// What is known stays sound whatever message comes.
 pub fn sound_stays()
     ensures { SoundStays }
+{}
+
+/// What is known stays sound whatever message of the router's own is taken.
+pub fn own_sound_stays()
+    ensures { OwnSoundStays }
+{}
+
+/// What an elected BSR's own router learns of its messages is what any router learns that takes them.
+pub fn own_is_taken()
+    ensures { OwnIsTaken }
 {}
 
 /// What is known stays sound whatever packet comes.
@@ -119,61 +130,67 @@ pub fn without_message_nothing_changes()
 {}
 
 /// A worked run.
-#[tactic(auto, unfolding(crate::specs::Hearing::after_message, crate::specs::Table::at_time, crate::specs::Table::configured, crate::specs::Table::given_of, crate::specs::Table::is_configured, crate::specs::Table::parts_after, crate::specs::Table::with_message, crate::specs::Table::with_range, crate::specs::Table::with_ranges, crate::specs::Choice::hash_value, crate::specs::Choice::is_better, crate::specs::Choice::is_chosen, crate::specs::Choice::masked, crate::specs::Choice::range_value))]
+#[tactic(auto, unfolding(crate::specs::Hearing::after_message, crate::specs::Table::at_time, crate::specs::Table::configured, crate::specs::Table::given_of, crate::specs::Table::is_configured, crate::specs::Table::parts_after, crate::specs::Table::with_message, crate::specs::Table::with_range, crate::specs::Table::with_ranges, pim_model::specs::Candidates::hash_value, crate::specs::Choice::is_better, crate::specs::Choice::is_chosen, crate::specs::Choice::range_value))]
 pub fn as_worked()
     ensures { AsWorked }
 {}
 
+/// A worked run: messages of the router's own.
+#[tactic(auto, unfolding(crate::specs::Standing::with_own, crate::specs::Table::kept_count, crate::specs::Table::parts_after, crate::specs::Table::with_message, crate::specs::Table::with_range, crate::specs::Table::with_ranges, pim_model::specs::Candidates::masked))]
+pub fn as_own()
+    ensures { AsOwn }
+{}
+
 /// Values of the hash function that another program printed.
-#[tactic(auto, unfolding(crate::specs::Choice::hash_value, crate::specs::Choice::masked))]
+#[tactic(auto, unfolding(pim_model::specs::Candidates::hash_value))]
 pub fn as_printed()
     ensures { AsPrinted }
 {}
 
 /// A worked run: which messages count.
-#[tactic(auto, unfolding(crate::specs::Hearing::heard, crate::specs::Hearing::why_not, crate::specs::Hearing::why_sender, crate::specs::Hearing::sent_on, crate::specs::Hearing::is_sent_on, crate::specs::Table::is_preferred, crate::specs::Table::kept_count, crate::specs::Table::same_ranges, crate::specs::Table::has_range, crate::specs::Hearing::after_message, crate::specs::Table::at_time, crate::specs::Table::configured, crate::specs::Table::given_of, crate::specs::Table::is_configured, crate::specs::Table::parts_after, crate::specs::Table::with_message, crate::specs::Table::with_range, crate::specs::Table::with_ranges, crate::specs::Choice::hash_value, crate::specs::Choice::is_better, crate::specs::Choice::is_chosen, crate::specs::Choice::masked, crate::specs::Choice::range_value))]
+#[tactic(auto, unfolding(crate::specs::Hearing::heard, crate::specs::Hearing::why_not, crate::specs::Hearing::why_checked, crate::specs::Hearing::why_sender, crate::specs::Hearing::sent_on, crate::specs::Hearing::is_sent_on, crate::specs::Table::is_preferred, crate::specs::Table::kept_count, crate::specs::Table::same_ranges, crate::specs::Table::has_range, crate::specs::Hearing::after_message, crate::specs::Table::at_time, crate::specs::Table::configured, crate::specs::Table::given_of, crate::specs::Table::is_configured, crate::specs::Table::parts_after, crate::specs::Table::with_message, crate::specs::Table::with_range, crate::specs::Table::with_ranges, pim_model::specs::Candidates::hash_value, crate::specs::Choice::is_better, crate::specs::Choice::is_chosen, crate::specs::Choice::range_value))]
 pub fn as_heard()
     ensures { AsHeard }
 {}
 
 /// A worked run: fragments of two BSRs with one tag.
-#[tactic(auto, unfolding(crate::specs::Hearing::after_message, crate::specs::Table::at_time, crate::specs::Table::configured, crate::specs::Table::given_of, crate::specs::Table::is_configured, crate::specs::Table::parts_after, crate::specs::Table::with_message, crate::specs::Table::with_range, crate::specs::Table::with_ranges, crate::specs::Choice::hash_value, crate::specs::Choice::is_better, crate::specs::Choice::is_chosen, crate::specs::Choice::masked, crate::specs::Choice::range_value))]
+#[tactic(auto, unfolding(crate::specs::Hearing::after_message, crate::specs::Table::at_time, crate::specs::Table::configured, crate::specs::Table::given_of, crate::specs::Table::is_configured, crate::specs::Table::parts_after, crate::specs::Table::with_message, crate::specs::Table::with_range, crate::specs::Table::with_ranges, pim_model::specs::Candidates::hash_value, crate::specs::Choice::is_better, crate::specs::Choice::is_chosen, crate::specs::Choice::range_value))]
 pub fn bsrs_are_apart()
     ensures { BsrsAreApart }
 {}
 
 /// A worked run: the hash mask of a message is that of all ranges.
-#[tactic(auto, unfolding(crate::specs::Hearing::after_message, crate::specs::Table::at_time, crate::specs::Table::configured, crate::specs::Table::given_of, crate::specs::Table::is_configured, crate::specs::Table::parts_after, crate::specs::Table::with_message, crate::specs::Table::with_range, crate::specs::Table::with_ranges, crate::specs::Choice::hash_value, crate::specs::Choice::is_better, crate::specs::Choice::is_chosen, crate::specs::Choice::masked, crate::specs::Choice::range_value))]
+#[tactic(auto, unfolding(crate::specs::Hearing::after_message, crate::specs::Table::at_time, crate::specs::Table::configured, crate::specs::Table::given_of, crate::specs::Table::is_configured, crate::specs::Table::parts_after, crate::specs::Table::with_message, crate::specs::Table::with_range, crate::specs::Table::with_ranges, pim_model::specs::Candidates::hash_value, crate::specs::Choice::is_better, crate::specs::Choice::is_chosen, crate::specs::Choice::range_value))]
 pub fn mask_is_of_all()
     ensures { MaskIsOfAll }
 {}
 
 /// A worked run that meets the premises of [`lasts_its_time`].
-#[tactic(auto, unfolding(crate::specs::Hearing::heard, crate::specs::Hearing::why_not, crate::specs::Hearing::why_sender, crate::specs::Hearing::sent_on, crate::specs::Hearing::is_sent_on, crate::specs::Table::is_preferred, crate::specs::Table::kept_count, crate::specs::Table::same_ranges, crate::specs::Table::has_range, crate::specs::Laws::AllLeave, crate::specs::Laws::all_after, crate::specs::Hearing::after_message, crate::specs::Table::at_time, crate::specs::Table::configured, crate::specs::Table::given_of, crate::specs::Table::is_configured, crate::specs::Table::parts_after, crate::specs::Table::with_message, crate::specs::Table::with_range, crate::specs::Table::with_ranges, crate::specs::Choice::hash_value, crate::specs::Choice::is_better, crate::specs::Choice::is_chosen, crate::specs::Choice::masked, crate::specs::Choice::range_value))]
+#[tactic(auto, unfolding(crate::specs::Hearing::heard, crate::specs::Hearing::why_not, crate::specs::Hearing::why_checked, crate::specs::Hearing::why_sender, crate::specs::Hearing::sent_on, crate::specs::Hearing::is_sent_on, crate::specs::Table::is_preferred, crate::specs::Table::kept_count, crate::specs::Table::same_ranges, crate::specs::Table::has_range, crate::specs::Laws::AllLeave, crate::specs::Laws::all_after, crate::specs::Hearing::after_message, crate::specs::Table::at_time, crate::specs::Table::configured, crate::specs::Table::given_of, crate::specs::Table::is_configured, crate::specs::Table::parts_after, crate::specs::Table::with_message, crate::specs::Table::with_range, crate::specs::Table::with_ranges, pim_model::specs::Candidates::hash_value, crate::specs::Choice::is_better, crate::specs::Choice::is_chosen, crate::specs::Choice::range_value))]
 pub fn as_left()
     ensures { AsLeft }
 {}
 
 /// A worked run: the candidates of a range, and the RP of each group.
-#[tactic(auto, unfolding(pim_model::specs::Unicast::rp_among, pim_model::specs::Candidates::chosen_among, pim_model::specs::Candidates::chosen, pim_model::specs::Candidates::is_chosen, pim_model::specs::Candidates::hash_value, pim_ip::specs::Prefixes::contains, pim_ip::specs::Prefixes::longest_match, pim_ip::specs::Prefixes::longer, crate::specs::Hearing::after_message, crate::specs::Table::at_time, crate::specs::Table::configured, crate::specs::Table::given_of, crate::specs::Table::is_configured, crate::specs::Table::parts_after, crate::specs::Table::with_message, crate::specs::Table::with_range, crate::specs::Table::with_ranges, crate::specs::Choice::hash_value, crate::specs::Choice::is_better, crate::specs::Choice::is_chosen, crate::specs::Choice::masked, crate::specs::Choice::range_value))]
+#[tactic(auto, unfolding(pim_model::specs::Unicast::rp_among, pim_model::specs::Candidates::chosen_among, pim_model::specs::Candidates::chosen, pim_model::specs::Candidates::is_chosen, pim_ip::specs::Prefixes::contains, pim_ip::specs::Prefixes::longest_match, pim_ip::specs::Prefixes::longer, crate::specs::Hearing::after_message, crate::specs::Table::at_time, crate::specs::Table::configured, crate::specs::Table::given_of, crate::specs::Table::is_configured, crate::specs::Table::parts_after, crate::specs::Table::with_message, crate::specs::Table::with_range, crate::specs::Table::with_ranges, pim_model::specs::Candidates::hash_value, crate::specs::Choice::is_better, crate::specs::Choice::is_chosen, crate::specs::Choice::range_value))]
 pub fn as_offered()
     ensures { AsOffered }
 {}
 
 /// A worked run: what gives the router other candidates, and what another RP of the range.
-#[tactic(auto, unfolding(crate::specs::Hearing::heard, crate::specs::Hearing::why_not, crate::specs::Hearing::why_sender, crate::specs::Hearing::sent_on, crate::specs::Hearing::is_sent_on, crate::specs::Table::is_preferred, crate::specs::Table::kept_count, crate::specs::Table::same_ranges, crate::specs::Table::has_range, crate::specs::Table::same_candidates, crate::specs::Table::has_candidate, crate::specs::Hearing::after_message, crate::specs::Table::at_time, crate::specs::Table::configured, crate::specs::Table::given_of, crate::specs::Table::is_configured, crate::specs::Table::parts_after, crate::specs::Table::with_message, crate::specs::Table::with_range, crate::specs::Table::with_ranges, crate::specs::Choice::hash_value, crate::specs::Choice::is_better, crate::specs::Choice::is_chosen, crate::specs::Choice::masked, crate::specs::Choice::range_value))]
+#[tactic(auto, unfolding(crate::specs::Hearing::heard, crate::specs::Hearing::why_not, crate::specs::Hearing::why_checked, crate::specs::Hearing::why_sender, crate::specs::Hearing::sent_on, crate::specs::Hearing::is_sent_on, crate::specs::Table::is_preferred, crate::specs::Table::kept_count, crate::specs::Table::same_ranges, crate::specs::Table::has_range, crate::specs::Table::same_candidates, crate::specs::Table::has_candidate, crate::specs::Hearing::after_message, crate::specs::Table::at_time, crate::specs::Table::configured, crate::specs::Table::given_of, crate::specs::Table::is_configured, crate::specs::Table::parts_after, crate::specs::Table::with_message, crate::specs::Table::with_range, crate::specs::Table::with_ranges, pim_model::specs::Candidates::hash_value, crate::specs::Choice::is_better, crate::specs::Choice::is_chosen, crate::specs::Choice::range_value))]
 pub fn as_moved()
     ensures { AsMoved }
 {}
 
 /// A worked run: the end of RPs, and configured ranges beside which there is less room.
-#[tactic(auto, unfolding(crate::specs::Joined::time_given, crate::specs::Joined::first_end, crate::specs::Table::same_ranges, crate::specs::Table::has_range, crate::specs::Table::same_candidates, crate::specs::Table::has_candidate, crate::specs::Hearing::after_message, crate::specs::Table::at_time, crate::specs::Table::configured, crate::specs::Table::given_of, crate::specs::Table::is_configured, crate::specs::Table::parts_after, crate::specs::Table::with_message, crate::specs::Table::with_range, crate::specs::Table::with_ranges, crate::specs::Choice::hash_value, crate::specs::Choice::is_better, crate::specs::Choice::is_chosen, crate::specs::Choice::masked, crate::specs::Choice::range_value))]
+#[tactic(auto, unfolding(crate::specs::Joined::time_given, crate::specs::Joined::first_end, crate::specs::Table::same_ranges, crate::specs::Table::has_range, crate::specs::Table::same_candidates, crate::specs::Table::has_candidate, crate::specs::Hearing::after_message, crate::specs::Table::at_time, crate::specs::Table::configured, crate::specs::Table::given_of, crate::specs::Table::is_configured, crate::specs::Table::parts_after, crate::specs::Table::with_message, crate::specs::Table::with_range, crate::specs::Table::with_ranges, pim_model::specs::Candidates::hash_value, crate::specs::Choice::is_better, crate::specs::Choice::is_chosen, crate::specs::Choice::range_value))]
 pub fn as_ended()
     ensures { AsEnded }
 {}
 
 /// A worked run that meets the premises of [`lasts_its_time`], with candidates.
-#[tactic(auto, unfolding(crate::specs::Hearing::heard, crate::specs::Hearing::why_not, crate::specs::Hearing::why_sender, crate::specs::Hearing::sent_on, crate::specs::Hearing::is_sent_on, crate::specs::Table::is_preferred, crate::specs::Table::kept_count, crate::specs::Table::same_ranges, crate::specs::Table::has_range, crate::specs::Table::same_candidates, crate::specs::Table::has_candidate, crate::specs::Laws::AllLeave, crate::specs::Laws::all_after, crate::specs::Hearing::after_message, crate::specs::Table::at_time, crate::specs::Table::configured, crate::specs::Table::given_of, crate::specs::Table::is_configured, crate::specs::Table::parts_after, crate::specs::Table::with_message, crate::specs::Table::with_range, crate::specs::Table::with_ranges, crate::specs::Choice::hash_value, crate::specs::Choice::is_better, crate::specs::Choice::is_chosen, crate::specs::Choice::masked, crate::specs::Choice::range_value))]
+#[tactic(auto, unfolding(crate::specs::Hearing::heard, crate::specs::Hearing::why_not, crate::specs::Hearing::why_checked, crate::specs::Hearing::why_sender, crate::specs::Hearing::sent_on, crate::specs::Hearing::is_sent_on, crate::specs::Table::is_preferred, crate::specs::Table::kept_count, crate::specs::Table::same_ranges, crate::specs::Table::has_range, crate::specs::Table::same_candidates, crate::specs::Table::has_candidate, crate::specs::Laws::AllLeave, crate::specs::Laws::all_after, crate::specs::Hearing::after_message, crate::specs::Table::at_time, crate::specs::Table::configured, crate::specs::Table::given_of, crate::specs::Table::is_configured, crate::specs::Table::parts_after, crate::specs::Table::with_message, crate::specs::Table::with_range, crate::specs::Table::with_ranges, pim_model::specs::Candidates::hash_value, crate::specs::Choice::is_better, crate::specs::Choice::is_chosen, crate::specs::Choice::range_value))]
 pub fn as_offered_left()
     ensures { AsOfferedLeft }
 {}

@@ -6,19 +6,21 @@ ghost use Rattle.pim_bsr.specs.Table.{at_time, candidates, choosing, configured,
 
 mod hear;
 mod saved;
+mod standing;
 
 use crate::choice::Choice;
 use crate::given::{candidates_by, first_end, gives, loses, moves, ranges_by};
 use crate::learned::{Elected, Learned, Part};
 use crate::table::Table;
 use pim_types::{EventKind, RpCandidate, RpRange, Series};
+pub use standing::send_own;
 use std::alloc::{AllocError, Global};
 use std::marker::Model;
 
 /// The most RP ranges that a router takes.
 pub const MOST_RPS: usize = 256;
 
-/// What a router that is no candidate BSR learned of Bootstraps (RFC 5059), beside its configured RP ranges.
+/// What a router learned of Bootstraps (RFC 5059), beside its configured RP ranges.
 ///
 /// A program that has a router behind a listener makes these calls, in this order:
 ///

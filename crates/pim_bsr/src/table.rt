@@ -2,10 +2,11 @@
 ghost use Rattle.std.specs.Prelude.{◌≡◌, ◌++◌, ◌^◌, ◌≤◌, [], filter, fold, map, min, IfOk, OnOk};
 ghost use Rattle.pim_bsr.specs.Table.{at_time, completed, emptied, fitting, has_holdtime, is_tagged, kept_count, learned_of, masks_after, message_id, part_of, parts_after, range_prefix, runs, waiting, waits, with_mask, with_part, with_parts, with_range, with_ranges, without, without_parts};
 
-use crate::choice::{masked, same_prefix};
+use crate::choice::same_prefix;
 use crate::learned::{Learned, Part};
 use pim_bootstrap::{CandidateRp, Candidates, RangeView, Ranges};
 use pim_ip::{Addr, Prefix};
+use pim_mrib::masked;
 use std::alloc::{AllocError, Global};
 use std::marker::Model;
 
@@ -27,7 +28,7 @@ fn range_prefix(range: &RangeView<'_>) -> Prefix
 {
     let length = range.length();
     Prefix {
-        address: Addr::from(masked(length, range.group()) as u32),
+        address: Addr::from(masked(u32::from(length), range.group()) as u32),
         length: u32::from(length),
     }
 }

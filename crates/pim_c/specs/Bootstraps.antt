@@ -1,5 +1,5 @@
 -- What a call does to the handle of a listener for Bootstraps (RFC 5059), and to that of a router, and answers.
-use Rattle.std.{specs.{Option.option_map_or, Prelude.{[], Bool, Err, List, None, Ok, Option, Result, Some, false, if◌then◌else◌, length, nat_le, not, option_and_then, true, ℕ, ◌&&◌, ◌==◌, ◌≡◌, ◌⊎◌}}}
+use Rattle.std.specs.{Option.option_map_or, Prelude.{[], Bool, Err, List, None, Ok, Option, Result, Some, false, if◌then◌else◌, length, nat_le, option_and_then, true, ℕ, ◌&&◌, ◌==◌, ◌≡◌, ◌⊎◌}}
 use Rattle.pim_ip.{specs.{Fault.fault_number, Refusal.refusal_number, declared.refusal.Refusal.Refusal}}
 use Rattle.pim_types.{specs.declared.{config.RpRange.RpRange, event.EventKind.EventKind, outcome.Ignored.Ignored}}
 use Rattle.pim_model.{specs.Limits.most_rps}

@@ -1,5 +1,5 @@
 -- What the values that a program gives stand for.
-use Rattle.std.{specs.Prelude.{List, None, Option, Some, if◌then◌else◌, map, ℕ, ◌==◌}}
+use Rattle.std.specs.Prelude.{None, Option, Some, if◌then◌else◌, map, ℕ, ◌==◌}
 use Rattle.pim_ip.{specs.{Addr.addr, declared.addr.Prefix.Prefix}}
 use Rattle.pim_types.{specs.declared.{config.{Config.Config, InterfaceConfig.InterfaceConfig, Route.Route, RpCandidate.RpCandidate, RpRange.RpRange, SptSwitch.SptSwitch}, event.{Event.Event, EventKind.EventKind}}}
 use Rattle.pim_anycast.{specs.declared.set.RpSet.RpSet}

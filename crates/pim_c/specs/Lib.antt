@@ -1,5 +1,6 @@
 pub mod Bootstraps
 pub mod Called
+pub mod Candidacies
 pub mod Given
 pub mod Kept
 pub mod Placed
@@ -7,6 +8,7 @@ pub mod Recorded
 pub mod Reloaded
 pub mod Returned
 pub mod Rows
+pub mod Sources
 pub mod Trees
 pub mod Written
 pub use Rattle.pim_session.specs.Session

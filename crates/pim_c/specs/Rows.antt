@@ -2,7 +2,7 @@
 use Rattle.std.{specs.Prelude.{Bool, None, Option, Some, false, true, unwrap_or, ℕ}}
 use Rattle.pim_types.{specs.declared.fact.AssertRole.AssertRole}
 use Rattle.pim_rows.{specs.declared.table.{DownstreamState.DownstreamState, RegisterName.RegisterName, Row.Row}}
-use Rattle.pim_c.{specs.{Returned.{never, source_or_zero}, declared.rows.{ActiveColumns.ActiveColumns, AssertColumns.AssertColumns, DownstreamColumns.DownstreamColumns, GroupColumns.GroupColumns, NeighbourColumns.NeighbourColumns, RptColumns.RptColumns, SourceColumns.SourceColumns, CRow.CRow, UpstreamColumns.UpstreamColumns}}}
+use Rattle.pim_c.specs.{Returned.{never, source_or_zero}, declared.rows.CRow.CRow}
 
 abbrev pub downstream_number : DownstreamState → ℕ
 downstream_number DownstreamState.Join = 1

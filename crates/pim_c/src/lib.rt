@@ -2,8 +2,11 @@
 //! of them.
 #![tactic(auto)]
 
+pub mod advertised;
 pub mod bootstraps;
 pub mod calls;
+pub mod candidacies;
+pub mod candidacy_place;
 pub mod given;
 pub mod handle;
 pub mod learned;
@@ -14,4 +17,7 @@ pub mod pointed;
 pub mod recorded;
 pub mod returned;
 pub mod rows;
+pub mod sources;
+pub mod standing;
+pub mod stands;
 pub mod trees;

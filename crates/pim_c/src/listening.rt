@@ -87,8 +87,8 @@ pub fn choice_number(choice: Choice) -> u32
     }
 }
 
-// The number of why a Bootstrap doesn't count.
-fn why_number(why: Why) -> u32
+/// The number of why a Bootstrap doesn't count.
+pub(crate) fn why_number(why: Why) -> u32
     ensures { result ≡ why_number why }
 {
     match why {

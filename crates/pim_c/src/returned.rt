@@ -46,8 +46,12 @@ pub const NO_SETTING: u32 = 54;
 pub const UNTAKEN: u32 = 55;
 /// The handle has no listener for Bootstraps.
 pub const NO_LISTENER: u32 = 56;
+/// The handle has no candidacy.
+pub const NO_CANDIDACY: u32 = 57;
 /// The guard stopped the event.
 pub const GUARDED: u32 = 109;
+/// The router isn't the elected BSR, for which an advertisement is.
+pub const NOT_ELECTED: u32 = 115;
 /// A packet that leaves on an interface and is no copy.
 pub const FRAME: u32 = 1;
 /// A copy of a packet of data, which leaves on an interface.

@@ -1,6 +1,6 @@
 -- Weights of BSRs.
 use Rattle.std.{proofs.{Common.{◌≡◌, ℕ, Bool, true, false, cond, min, not, nat_le, ◌==◌, refl, sym, ap, ◌∙◌, arith}, lemmas.Bool.Decides.nat_tests}}
-use Rattle.pim_candidate.{specs.{Election.{does, heard, is_at_least, less_heard, originated, weighed, yielded}, Laws.{OneOfTwoStays, OwnIsNotHeard, is_elected}, declared.election.{Action.Action, Bsr.Bsr, Election.Election, Role.Role}}}
+use Rattle.pim_candidate.{specs.{Election.{does, heard, is_at_least, is_elected, less_heard, originated, weighed, yielded}, Laws.{OneOfTwoStays, OwnIsNotHeard}, declared.election.{Action.Action, Bsr.Bsr, Election.Election, Role.Role}}}
 
 pub own_is_not_heard : OwnIsNotHeard
 unfolding heard

@@ -1,6 +1,6 @@
 -- The machine of a candidate BSR (RFC 5059, section 3.1.1), without zones: which BSRs it yields to, and when it is one itself.
 -- Times are in ms.
-use Rattle.std.{specs.{Prelude.{ℕ, zero, suc, ◌+◌, ◌-◌, ◌*◌, ◌/◌, ◌^◌, max, min, Bool, ◌||◌, ◌&&◌, ◌==◌, nat_le, nat_lt, if◌then◌else◌, Option, Some, None}}}
+use Rattle.std.{specs.{Prelude.{ℕ, zero, suc, ◌+◌, ◌-◌, ◌*◌, ◌/◌, ◌^◌, max, min, Bool, ◌||◌, ◌&&◌, ◌==◌, nat_le, nat_lt, false, true, if◌then◌else◌, Option, Some, None}}}
 use Rattle.pim_bsr.{specs.Table.bs_timeout}
 use Rattle.pim_candidate.{specs.{declared.election.{Action.Action, Bsr.Bsr, Election.Election, Outcome.Outcome, Role.Role}}}
 
@@ -55,13 +55,19 @@ override_delay own stored = 5000 + priority_delay own stored + address_delay own
 
 -- ---- states
 
--- no Bootstrap may be originated in the next time
+-- the candidate is the BSR
+abbrev pub is_elected : Role → Bool
+is_elected Role.Candidate = false
+is_elected Role.Pending = false
+is_elected Role.Elected = true
+
+-- It may become the BSR, but not sooner than BS_Min_Interval after its last message (3.3).
 abbrev pub pending : Bsr → Option Bsr → ℕ → ℕ → Election
 pending own stored quiet now = record {
   own = own;
   role = Role.Pending;
   stored = stored;
-  end = now + override_delay own stored;
+  end = max (now + override_delay own stored) quiet;
   quiet = quiet;
 }
 
@@ -93,10 +99,10 @@ less_heard Role.Elected e now =
     if nat_le e.quiet now then does Action.Originate (originated e now) else does Action.Nothing (record e { end = min e.end e.quiet })
 
 -- A message of the BSR that it yields to, whose weight may have changed: while it isn't less than its own it yields; else it
--- may become the BSR itself.
+-- may become the BSR itself, after a delay by the weight that the BSR had.
 abbrev pub elected_heard : Election → Bsr → ℕ → Outcome
 elected_heard e b now =
-    if is_at_least b e.own then does Action.Take (yielded e b now) else does Action.PassOn (pending e.own (Some b) e.quiet now)
+    if is_at_least b e.own then does Action.Take (yielded e b now) else does Action.PassOn (pending e.own e.stored e.quiet now)
 
 -- a message of a BSR beside one of some weight
 abbrev pub other_heard : Election → Bsr → Bsr → ℕ → Outcome

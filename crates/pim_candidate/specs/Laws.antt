@@ -1,17 +1,11 @@
 -- What a network may count on of candidate BSRs.
 use Rattle.std.{specs.Prelude.{◌≡◌, ℕ, Bool, true, false, ◌==◌, not}}
-use Rattle.pim_candidate.{specs.{Election.{does, heard}, declared.election.{Action.Action, Bsr.Bsr, Election.Election, Role.Role}}}
+use Rattle.pim_candidate.{specs.{Election.{does, heard, is_elected}, declared.election.{Action.Action, Bsr.Bsr, Election.Election, Role.Role}}}
 
 -- A message that says the router's own address as its BSR changes nothing, and isn't sent on.
 abbrev pub OwnIsNotHeard : Type 0
 OwnIsNotHeard =
     (e : Election) (b : Bsr) (now : ℕ) → (b.address.bits == e.own.address.bits) ≡ true → heard e b now ≡ does Action.Nothing e
-
--- the candidate is the BSR
-abbrev pub is_elected : Role → Bool
-is_elected Role.Candidate = false
-is_elected Role.Pending = false
-is_elected Role.Elected = true
 
 -- Of two elected BSRs that hear each other, one stays it.
 abbrev pub OneOfTwoStays : Type 0

@@ -1,7 +1,10 @@
 pub mod Advertising
+pub mod Candidacy
+pub mod CandidacyLaws
 pub mod Election
 pub mod Laws
 pub mod Network
 pub mod RpSet
 pub mod Runs
 pub mod SaySame
+pub mod Sound

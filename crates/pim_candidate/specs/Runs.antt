@@ -1,8 +1,9 @@
 -- Worked runs.
-use Rattle.std.{specs.Prelude.{◌≡◌, ℕ, Bool, true, false, List, [], ◌∷◌, None, Some, map}}
+use Rattle.std.{specs.Prelude.{◌≡◌, ◌==◌, ℕ, Bool, true, false, List, [], ◌∷◌, length, Option, None, Some, map, option_map}}
 use Rattle.pim_ip.{specs.{Addr.addr}}
 use Rattle.pim_bootstrap.{specs.{Advertisements.Advertisement, Fragments.RangeRps, declared.{bootstrap.CandidateRp.CandidateRp}}}
-use Rattle.pim_candidate.{specs.{Advertising.{sent, silent, with_bsr}, Election.{begun, expired, heard, override_delay}, Network.{Pair, after_events, without_second}, RpSet.{RpSet, advertised, empty, passed, said}, declared.{advertising.Advertising.Advertising, election.{Action.Action, Bsr.Bsr, Election.Election, Outcome.Outcome, Role.Role}}}}
+use Rattle.pim_bsr.{specs.{Hearing.Around, Table.{Known, new_known}, declared.learned.Elected.Elected}}
+use Rattle.pim_candidate.{specs.{Advertising.{sent, silent, with_bsr}, Candidacy.{Candidacy, Left, candidacy_end, new_candidacy, time_passed}, Election.{begun, expired, heard, override_delay}, Network.{Pair, after_events, without_second}, RpSet.{RpSet, advertised, empty, passed, said}, declared.{advertising.Advertising.Advertising, candidacy.StandingBsr.StandingBsr, election.{Action.Action, Bsr.Bsr, Election.Election, Outcome.Outcome, Role.Role}, rp_set.Held.Held}}}
 
 abbrev pub bsr : ℕ → ℕ → Bsr
 bsr address priority = record { address = addr address; priority = priority }
@@ -37,7 +38,8 @@ yields = (heard elected (bsr 0x0A00_0009 11) 26000).left
 
 -- It begins Pending, and is Elected after 5 s. It answers a BSR of less weight at once where it sent nothing for 10 s, else when
 -- these are over. It yields to one of more weight for 130 s, also when that one's weight falls, but not below its own. To one
--- whose weight falls below that it yields no more, and passes its message on; others of less weight it ignores. After 130 s it
+-- whose weight falls below that it yields no more, and passes its message on: it may become the BSR after a delay by the weight that it yielded to, but not
+-- sooner than 10 s after its last message. Others of less weight it ignores. After 130 s it
 -- may become the BSR again.
 abbrev pub AsElected : Type 0
 AsElected =
@@ -50,7 +52,8 @@ AsElected =
     × (state (heard elected (bsr 0x0A00_0009 10) 26000) ≡ (Role.Candidate, 156000, 15000, Action.Take))
     × (state (heard elected (bsr 0x0A00_0001 11) 26000) ≡ (Role.Elected, 65000, 15000, Action.Nothing))
     × (state (heard yields (bsr 0x0A00_0009 10) 30000) ≡ (Role.Candidate, 160000, 15000, Action.Take))
-    × (state (heard yields (bsr 0x0A00_0009 5) 30000) ≡ (Role.Pending, 35195, 15000, Action.PassOn))
+    × (state (heard yields (bsr 0x0A00_0009 5) 30000) ≡ (Role.Pending, 38922, 15000, Action.PassOn))
+    × (state (heard (heard elected (bsr 0x0A00_0009 11) 5200).left (bsr 0x0A00_0009 5) 5500) ≡ (Role.Pending, 15000, 15000, Action.PassOn))
     × (state (heard yields (bsr 0x0A00_0008 11) 30000) ≡ (Role.Candidate, 156000, 15000, Action.Nothing))
     × (state (heard yields (bsr 0x0A00_000A 11) 30000) ≡ (Role.Candidate, 160000, 15000, Action.Take))
     × (state (heard (begun own 0) (bsr 0x0A00_0009 9) 3000) ≡ (Role.Pending, 5000, 0, Action.PassOn))
@@ -144,3 +147,55 @@ AsHeld =
     ≡ (0xEF00_0000, 8, (0x0A00_0006, 200) ∷ (0x0A00_0005, 150) ∷ []) ∷ [])
     × (lines (advertised 2000 255 one (advertises 0x0A00_0006 0xEF00_0000 200 true)) ≡ lines one)
     × (lines (advertised 2000 1 one (advertises 0x0A00_0006 0xEF00_0000 200 false)) ≡ lines one)
+
+-- ---- a router that stands as nothing
+
+abbrev pub nothing : Candidacy
+nothing = new_candidacy None None 1000
+
+-- None of its timers runs.
+abbrev pub AsNothing : Type 0
+AsNothing = (nothing.bsr ≡ None) × (nothing.rp ≡ None) × (candidacy_end nothing ≡ None)
+
+-- ---- a router that stands as a BSR and as an RP
+
+-- it has neighbours on both of its interfaces
+abbrev pub around : Around
+around = record {
+  present = 0;
+  own = λ a. a == 0x0A00_0001;
+  neighbour = λ i a. true;
+  hop = λ a. None;
+  count = 2;
+  linked = λ i. true;
+  address = λ i. 0x0A00_0001;
+}
+
+-- 10.0.0.1 stands as a BSR, and as the RP of 239.0.0.0/8, from 0 on
+abbrev pub both : Candidacy
+both =
+    new_candidacy (Some (record { bsr = own; hash_length = 30; limit = 255 }))
+    (Some (record { address = addr 0x0A00_0001; priority = 192; ranges = record { address = addr 0xEF00_0000; length = 8 } ∷ [] })) 0
+
+-- time passes to 5 s and to 5.5 s
+abbrev pub says : Left
+says = time_passed around both (new_known 255 [] 60000) 5000 500
+
+abbrev pub tells_itself : Left
+tells_itself = time_passed around says.candidacy says.known 5500 500
+
+abbrev pub bsrs : Known → Option ℕ
+bsrs k = option_map (λ (e : Elected). e.bsr.bits) k.elected
+
+-- At 5 s it says on both interfaces that it is the BSR, and its own front takes that. Half a second later it tells itself of its RP
+-- without a packet, and is to say it as soon as it may, at 15 s; it tells itself again before that.
+abbrev pub AsStanding : Type 0
+AsStanding =
+    (candidacy_end both ≡ Some 5000)
+    × (length says.sent ≡ 2)
+    × (bsrs says.known ≡ Some 0x0A00_0001)
+    × (candidacy_end says.candidacy ≡ Some 5500)
+    × (tells_itself.sent ≡ [])
+    × (map (λ (h : Held). h.rp.address.bits) tells_itself.candidacy.rp_set.held ≡ 0x0A00_0001 ∷ [])
+    × (candidacy_end tells_itself.candidacy ≡ Some 6000)
+    × (option_map (λ (b : StandingBsr). b.election.end) tells_itself.candidacy.bsr ≡ Some 15000)

@@ -1,6 +1,6 @@
 //! The machine of a candidate BSR (RFC 5059, section 3.1.1): which BSRs it yields to, and when it is one itself.
 ghost use Rattle.std.specs.Prelude.{◌≡◌, ◌^◌, ◌≤◌, min};
-ghost use Rattle.pim_candidate.specs.Election.{address_delay, begun, best_address, best_priority, does, elected_heard, expired, hastened, heard, is_at_least, less_heard, milli_log, originated, other_heard, override_delay, pending, priority_delay, weighed, whole_log, yielded};
+ghost use Rattle.pim_candidate.specs.Election.{address_delay, begun, best_address, best_priority, does, elected_heard, expired, hastened, heard, is_at_least, is_elected, less_heard, milli_log, originated, other_heard, override_delay, pending, priority_delay, weighed, whole_log, yielded};
 
 use pim_ip::Addr;
 
@@ -154,7 +154,7 @@ fn pending(own: Bsr, stored: Option<Bsr>, quiet: u64, now: u64) -> Election
         own,
         role: Role::Pending,
         stored,
-        end: now + override_delay(own, stored),
+        end: (now + override_delay(own, stored)).max(quiet),
         quiet,
     }
 }
@@ -194,6 +194,13 @@ impl Election {
             end: now + BS_PERIOD,
             quiet: now + BS_MIN_INTERVAL,
         }
+    }
+
+    /// Whether it is the BSR.
+    pub fn is_elected(self) -> bool
+        ensures { result ≡ is_elected self.role }
+    {
+        matches!(self.role, Role::Elected)
     }
 
     fn does(self, action: Action) -> Outcome
@@ -241,7 +248,7 @@ impl Election {
         if bsr.is_at_least(self.own) {
             return self.yielded(bsr, now).does(Action::Take);
         }
-        pending(self.own, Some(bsr), self.quiet, now).does(Action::PassOn)
+        pending(self.own, self.stored, self.quiet, now).does(Action::PassOn)
     }
 
     /// A message of a BSR, compared with another one.

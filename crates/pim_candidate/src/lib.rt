@@ -2,6 +2,9 @@
 #![tactic(auto)]
 
 pub mod advertising;
+pub mod candidacy;
+#[cfg(test)]
+mod candidacy_tests;
 pub mod election;
 pub mod laws;
 pub mod rp_set;
@@ -9,5 +12,6 @@ pub mod rp_set;
 mod tests;
 
 pub use advertising::{ADVERTISED_HOLDTIME, Advertising};
+pub use candidacy::{Candidacy, CandidacyHeard, MOST_ADVERTISED_RANGES, StandsAsBsr, StandsAsRp};
 pub use election::{Action, Bsr, Election, Outcome, Role};
 pub use rp_set::{Gone, Held, RpSet};

@@ -6,6 +6,7 @@ ghost use Rattle.pim_model.specs.Limits.{same_prefix};
 ghost use Rattle.pim_bootstrap.specs.Bootstraps.{bootstrap_text};
 ghost use Rattle.pim_bootstrap.specs.Fragments.{fragments};
 ghost use Rattle.pim_bootstrap.specs.FragmentTexts.{IsWritable, range_rps};
+ghost use Rattle.pim_candidate.specs.Candidacy.{IsSendable};
 ghost use Rattle.pim_candidate.specs.RpSet.{IsShort, advertised, advertised_rp, earlier, empty, firsts, first_end, gone_after, gone_from, gone_prefix, has_held, has_rp, held_after, held_from, held_prefix, is_lost, is_mapping, is_of, passed, replaced, runs, said, said_gone, said_range, said_rp, said_value, same_held, same_rps, stays_gone, with_range, without};
 
 use crate::election::BS_TIMEOUT;
@@ -368,6 +369,20 @@ fn to_write<'a>(alloc: Global, said: &'a [Said]) -> Result<Vec<GroupRange<'a>>, 
     Ok(ranges)
 }
 
+/// The messages that say ranges; each fits into a packet.
+fn written(
+    alloc: Global,
+    head: BootstrapHead,
+    ranges: &[GroupRange<'_>],
+) -> Result<Vec<Vec<u8>>, AllocError>
+    requires { All IsWritable ranges.now }
+    ensures value { IfOk result (λ messages. map (λ bytes. bytes.items) messages.items
+        ≡ map bootstrap_text (fragments head (map range_rps ranges.now))) }
+    ensures fits { IfOk result (λ messages. All IsSendable messages.items) }
+{
+    write_bootstrap(alloc, head, ranges)
+}
+
 /// The candidate RPs that an elected BSR knows by their advertisements, at most 255. Times are in ms.
 #[derive(Drop)]
 pub struct RpSet {
@@ -395,6 +410,16 @@ impl RpSet {
             held: Vec::new(alloc),
             gone: Vec::new(alloc),
         }
+    }
+
+    /// The same, in memory of its own.
+    pub(crate) fn copy(&self, alloc: Global) -> Result<RpSet, AllocError>
+        ensures { IfOk result (λ copy. copy ≡ self.now) }
+    {
+        Ok(RpSet {
+            held: Vec::from_slice(alloc, self.held.as_slice())?,
+            gone: Vec::from_slice(alloc, self.gone.as_slice())?,
+        })
     }
 
     /// The RPs of ranges.
@@ -475,14 +500,15 @@ impl RpSet {
     /// The messages that say the RPs, each with its checksum.
     #[tactic(auto, unfolding(crate::specs::RpSet::said))]
     pub fn write(&self, alloc: Global, head: BootstrapHead) -> Result<Vec<Vec<u8>>, AllocError>
-        ensures { IfOk result (λ messages. map (λ bytes. bytes.items) messages.items
+        ensures value { IfOk result (λ messages. map (λ bytes. bytes.items) messages.items
             ≡ map bootstrap_text (fragments head (said self.now))) }
+        ensures fits { IfOk result (λ messages. All IsSendable messages.items) }
     {
         let firsts = firsts(alloc, &self.held)?;
         let mut said = Vec::new(alloc);
         add_said(alloc, &mut said, &firsts, &self.held)?;
         add_said_gone(alloc, &mut said, &self.gone)?;
         let ranges = to_write(alloc, &said)?;
-        write_bootstrap(alloc, head, &ranges)
+        written(alloc, head, &ranges)
     }
 }

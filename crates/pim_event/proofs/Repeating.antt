@@ -1,5 +1,5 @@
 -- Events that repeat what is known: each needs no room, nothing follows of it, and no source is named.
-use Rattle.std.{specs.{Option.option_map_or, Prelude.{if◌then◌else◌, is_some}}, proofs.{Common.{◌≡◌, ◌≤◌, ◌<◌, ◌+◌, ◌&&◌, ℕ, Bool, List, [], Err, IfOk, IsOkUnless, None, Ok, OnOk, Option, Result, Some, append-nil, ap, arith, inl, length, not, refl, subst, sym, true, false, ◌∙◌}, Math.Bool.and-false}}
+use Rattle.std.{specs.{Option.option_map_or, Prelude.{if◌then◌else◌, is_some}}, proofs.{Common.{◌≡◌, ◌≤◌, ◌<◌, ◌+◌, ℕ, Bool, List, [], Err, IfOk, IsOkUnless, None, Ok, OnOk, Option, Result, Some, append-nil, ap, arith, inl, length, not, refl, subst, sym, true, false, ◌∙◌}, Math.Bool.and-false}}
 use Rattle.pim_ip.{specs.{Ipv4.Packet, declared.{addr.Addr.Addr, fault.Fault.Fault}}}
 use Rattle.pim_types.{specs.{Keys.source_key, declared.{config.IfaceId.IfaceId, fact.{Key.Key, SourceRow.SourceRow}, outcome.{Emission.Emission, Outcome.Outcome, Verdict.Verdict}}}}
 use Rattle.igmp_wire.{specs.Values.Record}

@@ -1,7 +1,7 @@
 -- A source that a change doesn't touch isn't named, whether it has a fact or not, where routes and RP ranges are as
 -- they were.
-use Rattle.std.{proofs.Common.{◌≡◌, ℕ, List, false, inl, inr, map, true, sym, ap, ◌∙◌}, specs.{Cmp.Derive.both_true, Prelude.option_and_then}}
-use Rattle.pim_types.{specs.declared.config.{Route.Route, RpTable.RpTable}}
+use Rattle.std.{proofs.Common.{◌≡◌, ℕ, false, inl, inr, map, true, sym, ap, ◌∙◌}, specs.{Cmp.Derive.both_true, Prelude.option_and_then}}
+use Rattle.pim_types.specs.declared.config.RpTable.{RpTable}
 use Rattle.pim_model.{specs.{Clearing.clear, State.State, Unicast.{route, route_among, rp_among, rp_of, rp_route}}}
 use Rattle.law_events.{specs.{Locality.IsQuiet, Moved.IsRerouted, Named.{has_same_routes, has_same_rp, is_source_named}, Scopes.only_up}, proofs.{Configured.ups, Rerouted.{around_rerouted, rerouted_beside, rerouted_unnamed}, SharedMacros.route_cut, Sights.{options_same, paths_same}, Touched.touched_names}}
 use Rattle.pim_state.{specs.declared.touched.Touched.Touched}

@@ -2,7 +2,7 @@
 use Rattle.std.{proofs.{Common.{◌≡◌, ℕ, Bool, true, false, cond, List, [], ◌∷◌, ◌++◌, map, filter, Option, Some, None, refl, ap, subst, sym, ◌∙◌, ◌==◌, ◌||◌, nat_lt}, lemmas.List.Folds.list_any-append}, specs.{List.{AllByRecursion, cons_option, filter_map, Sorted.IsStrictlySortedBy}, Ordering.nat_cmp, declared.cmp.Ordering.TheVariants.Less}}
 use Rattle.igmp_wire.{specs.declared.report.RecordType.RecordType}
 use Rattle.pim_filters.{specs.{Asking.asked_in_order, Cases.{CaseValue, cases_in, cases_with, member_case, new_case, case_value}, Changes.{asked_after, entry_after}, Members.{IsAscending, bits_of, member_entries, member_entry, source_state_at, source_state_of}, Rules.{asks_group, asks_sources, source_state_after, is_asked, kept_or, timer_after}, declared.{case.Case.Case, member.Member.Member, rule.Rule.Rule}}, proofs.{Merging.{AtLeast-zero, Rises-cases, Tells, among_cases, source_state_among, keys, sources_in, values_of_cases}, Orders.{Rises, Rises-ascending, Rises-from_sorted, is_among-ascending, same_rising, sorted_from_Rises}}}
-use Rattle.pim_model.{specs.{Records.{GroupRecord, apply_record, asks, source_state_in, from_exclude, from_include, record_with, sources_of_both}, Tables.{ascending, is_among}}}
+use Rattle.pim_model.specs.{Records.{GroupRecord, apply_record, asks, source_state_in, from_exclude, from_include, record_with}, Tables.{ascending, is_among}}
 use Rattle.pim_model.specs.Records as records
 
 -- ---- the cases are the sources of both

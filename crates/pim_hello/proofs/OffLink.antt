@@ -1,8 +1,8 @@
 -- Where no source of a fact is in the subnet of an interface, no source of a fact is on its link.
-use Rattle.std.{proofs.{Common.{◌≡◌, ◌==◌, ◌&&◌, ◌||◌, ◌++◌, ℕ, Bool, true, false, append-nil, find, List, [], ◌∷◌, filter, map, Option, Some, None, is_some, length, refl, sym, ap, ◌∙◌, eqb-true}, Math.Bool.or_assoc, lemmas.List.Folds.list_any-append}, specs.{Cmp.second_so, List.{flat_map, list_any}, Option.option_map_or, Prelude.{if◌then◌else◌, option_and_then, slice_get}}}
-use Rattle.pim_ip.{specs.{Prefixes.{contains, longest_match}, declared.addr.Prefix.Prefix}}
-use Rattle.pim_types.{specs.{declared.{config.{InterfaceConfig.InterfaceConfig, Route.Route}, fact.{InterfaceRow.InterfaceRow, Key.Key}, path.Path.Path}, Keys.{iface_key, is_of_group, source_in}}}
-use Rattle.pim_model.{specs.{State.{Addressing, State, is_own_among}, Tables.{Table, below, has_row, keys_in}, Unicast.{is_on_link_among, link_among, link_path, path_if_up, route, route_among, route_path, routed_among, subnet}, Upstream.{fact_keys, groups_of, sources_of}}}
+use Rattle.std.{proofs.Common.{◌≡◌, ◌==◌, ◌&&◌, ◌||◌, ◌++◌, ℕ, Bool, true, false, append-nil, find, List, [], ◌∷◌, filter, Option, Some, None, is_some, length, refl, sym, ap, ◌∙◌, eqb-true}, specs.{Cmp.second_so, List.{flat_map, list_any}, Option.option_map_or, Prelude.{if◌then◌else◌, option_and_then, slice_get}}}
+use Rattle.pim_ip.specs.Prefixes.{contains, longest_match}
+use Rattle.pim_types.specs.{declared.{config.{InterfaceConfig.InterfaceConfig, Route.Route}, fact.{InterfaceRow.InterfaceRow, Key.Key}, path.Path.Path}, Keys.{iface_key, source_in}}
+use Rattle.pim_model.specs.{State.{Addressing, State, is_own_among}, Tables.{Table, below, has_row}, Unicast.{is_on_link_among, link_among, link_path, path_if_up, route, route_among, route_path, routed_among, subnet}, Upstream.{fact_keys, groups_of, sources_of}}
 use Rattle.law_events.{specs.Adjacent.{is_linked, linked_of_group, linked_sources}, proofs.Nowhere.{neither_first, neither_second, sources_fail}}
 use Rattle.pim_state.{specs.Sources.{is_within, has_source_on_subnet}}
 

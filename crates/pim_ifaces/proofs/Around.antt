@@ -1,5 +1,5 @@
 -- The one subnet that an address lies in, by the own addresses in ascending order.
-use Rattle.std.{proofs.{Common.{inl, inr, ⊎_elim, ◌≡◌, ◌<◌, ◌≤◌, ◌+◌, ◌-◌, ◌*◌, ◌/◌, ◌^◌, ◌==◌, ◌&&◌, ◌||◌, not, ℕ, zero, suc, Bool, true, false, List, [], ◌∷◌, ◌++◌, None, Option, Some, length, append_assoc, drop, get_or, refl, sym, ap, ◌∙◌, subst, arith, eq-eqb, eqb-true, leb}, lemmas.{Bool.{or_left, or_right, Decides.nat_tests}, List.{append-nil, take_at, Elements.All-from_recursion, Sorted.{All-permutation, Contains-permutation, IsPermutation-sym}}, Nat.{div-add-mod', le-div, pow_pos, shr-shr}}}, specs.{Prelude.{IfSome, if◌then◌else◌, option_and_then, ◌⊎◌}, List.{refill, All, AllByRecursion, find, list_any, slice_get, Contains, Sorted.{IsNonDecreasingBy, IsPartitionPoint, IsPermutation}}, Option.option_map_or}}
+use Rattle.std.{proofs.{Common.{inl, inr, ⊎_elim, ◌≡◌, ◌<◌, ◌≤◌, ◌+◌, ◌-◌, ◌/◌, ◌^◌, ◌&&◌, not, ℕ, zero, suc, Bool, true, false, List, [], ◌∷◌, ◌++◌, None, Option, Some, length, append_assoc, drop, get_or, refl, sym, ap, ◌∙◌, subst, arith, eq-eqb, eqb-true, leb}, lemmas.{Bool.{or_left, or_right, Decides.nat_tests}, List.{append-nil, take_at, Elements.All-from_recursion, Sorted.{All-permutation, Contains-permutation}}, Nat.{div-add-mod', le-div, pow_pos, shr-shr}}}, specs.{Prelude.{IfSome, if◌then◌else◌, option_and_then, ◌⊎◌}, List.{refill, All, AllByRecursion, list_any, slice_get, Contains, Sorted.{IsNonDecreasingBy, IsPartitionPoint, IsPermutation}}, Option.option_map_or}}
 use Rattle.pim_ip.{specs.Prefixes.contains}
 use Rattle.pim_types.{specs.declared.config.InterfaceConfig.InterfaceConfig}
 use Rattle.pim_model.{specs.{Limits.{are_apart, overlaps}, Unicast.subnet}}

@@ -1,5 +1,5 @@
 -- The first link that an address is on, and whether it is an own address, by the one subnet that it lies in.
-use Rattle.std.{proofs.{Common.{◌≡◌, ◌<◌, ◌≤◌, ◌+◌, ◌-◌, ◌/◌, ◌^◌, ◌==◌, ◌&&◌, ◌||◌, ℕ, zero, suc, Bool, true, false, List, [], ◌∷◌, None, Option, Some, length, refl, sym, ap, ◌∙◌, subst, arith, eq-eqb, eqb-true, ⊎_elim}, lemmas.Bool.{or_left, or_right, Decides.nat_tests}}, specs.{List.{find, list_any, range_with_len, slice_get}, Option.option_map_or, Prelude.IfSome}}
+use Rattle.std.{proofs.{Common.{◌≡◌, ◌<◌, ◌≤◌, ◌+◌, ◌-◌, ◌/◌, ◌^◌, ◌==◌, ◌&&◌, ℕ, zero, suc, Bool, true, false, List, [], ◌∷◌, None, Option, Some, length, refl, sym, ap, ◌∙◌, subst, arith, eq-eqb, eqb-true}, lemmas.Bool.{or_left, or_right, Decides.nat_tests}}, specs.{List.{find, list_any, range_with_len, slice_get}, Option.option_map_or}}
 use Rattle.pim_ip.{specs.Prefixes.contains}
 use Rattle.pim_types.{specs.{declared.{config.InterfaceConfig.InterfaceConfig, fact.InterfaceRow.InterfaceRow}, Keys.iface_key}}
 use Rattle.pim_model.{specs.{State.{Addressing, InterfaceTable}, Tables.{Table, has_row}, Unicast.{is_on_link_among, link_among, subnet}}}

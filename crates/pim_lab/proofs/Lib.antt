@@ -1,4 +1,5 @@
 pub mod Fronts
+pub mod FrontRead
 pub mod Opening
 pub mod Sharing
 pub mod Stops

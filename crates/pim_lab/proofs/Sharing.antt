@@ -4,7 +4,7 @@ use Rattle.pim_ip.{specs.{Ipv4.{Packet, ipv4_reading}, declared.refusal.Refusal.
 use Rattle.pim_types.{specs.declared.{config.IfaceId.IfaceId, event.{Event.Event, EventKind.EventKind}, name.SourceGroup.SourceGroup, outcome.{Emission.Emission, Outcome.Outcome}}}
 use Rattle.pim_model.{specs.{Network.{Network, Station, moved_at, sent_by, station_at}, State.State, Unicast.no_ranges}}
 use Rattle.pim_net.{specs.Showing.{Standing, shown_state, with_sent_at}}
-use Rattle.igmp_older.{specs.{Joined.{FrontedRouter, joined_step}, Presence.Present}}
+use Rattle.igmp_older.specs.{Joined.joined_step, Presence.Present}
 use Rattle.pim_anycast.{specs.{Announced.{announced_due, announced_new, is_announced, is_local, local_keys}, Joined.{event_given, kind_given, sent_after, sent_before}, Passed.{bytes_given, copies_of, passed}, declared.{front.Passed.Passed, set.RpSet.RpSet}}}
 use Rattle.igmp_older.specs.Joined as older
 use Rattle.pim_lab.{specs.{Fronts.{Stands, behind}, Shared.{IsWatchOf, beside, came_behind, shared_network, shared_outcome}, declared.shared.Watch.Watch}, proofs.Fronts.{asked_of, moved_at_is, shown, station_after}}

@@ -4,17 +4,19 @@ ghost use Rattle.pim_net.specs.Showing.{node_of};
 ghost use Rattle.std.specs.Prelude.{◌≡◌, IfErr, IfOk, Ok, OnOk, map};
 
 use crate::front::Asked;
+use crate::kept::{open_kept, write_kept};
 use crate::learned::{self, Told};
 use crate::nodes::{have_sets, reloaded_of, station_of};
 use crate::saved::Unresumed;
 use igmp_older::Presence;
 use igmp_older_saved::{HostRow, are_held, open_saved, resumed_rows, saved_hosts, write_saved};
 use lab_parts::{
-    Delivery, ElectedLine, Frames, Fronts, LearnedLine, Learning, Lines, Names, OlderLine,
-    Reloaded, RowLine, Station, Trouble,
+    Delivery, ElectedLine, Frames, Fronts, GoneLine, HeldLine, LearnedLine, Learning, Lines, Names,
+    OlderLine, Owed, Reloaded, RoleLine, RowLine, Station, ToldLine, Trouble,
 };
 use pim_anycast::{Anycast, BadRpSet};
-use pim_bsr::{Heard, Listener};
+use pim_bsr::Listener;
+use pim_candidate::{Candidacy, CandidacyHeard};
 use pim_net::{Net, Node, Renewal, Router, Unrestored, Wire};
 use pim_rows::Table;
 use pim_saver::ReadFault;
@@ -150,7 +152,7 @@ impl<W: Wire> Lab<W> {
             .position(|station| station.name() == name)
     }
 
-    /// Puts the router of a name into the state that these bytes say, with the older hosts in them.
+    /// Puts the router of a name into the state that these bytes say, with the listener and the older hosts in them.
     pub(crate) fn restore(
         &mut self,
         name: &str,
@@ -162,8 +164,39 @@ impl<W: Wire> Lab<W> {
         }
     }
 
-    // Puts the router at a place into the state that these bytes say, with the older hosts in them.
+    // Puts the router at a place into the state that these bytes say, with the listener and the older hosts in them.
     fn restore_at(&mut self, place: usize, bytes: &[u8]) -> Result<Result<(), Unresumed>, Fault> {
+        let (listener, rest) = match open_kept(self.alloc, bytes)? {
+            Ok(opened) => opened,
+            Err(refusal) => return Ok(Err(Unresumed::Listener(refusal))),
+        };
+        if let Err(why) = self.restore_behind(place, rest)? {
+            return Ok(Err(why));
+        }
+        self.listen(place, listener)?;
+        Ok(Ok(()))
+    }
+
+    // Has the router at a place go on with a listener that was saved with it. Without one it has that of the scenario. What
+    // it stands as it begins anew.
+    fn listen(&mut self, place: usize, listener: Option<Listener>) -> Result<(), Fault> {
+        let (Some(router), Some(station)) = (self.net.router(place), self.stations.get_mut(place))
+        else {
+            return Err(Fault::Failed);
+        };
+        if let Some(listener) = listener {
+            station.listener = Some(listener);
+        }
+        station.stand(self.alloc, router.present_moment())?;
+        Ok(())
+    }
+
+    // Puts the router at a place into the state that these bytes say, with the older hosts in them.
+    fn restore_behind(
+        &mut self,
+        place: usize,
+        bytes: &[u8],
+    ) -> Result<Result<(), Unresumed>, Fault> {
         let (hosts, rest) = match open_saved(self.alloc, bytes) {
             Ok(opened) => opened,
             Err(ReadFault::Memory) => return Err(Fault::Memory),
@@ -196,7 +229,8 @@ impl<W: Wire> Lab<W> {
         Ok(Ok(()))
     }
 
-    /// Adds the bytes of the state of the router of a name, with its older hosts, after those that are there.
+    /// Adds the bytes of the state of the router of a name, with its listener and its older hosts, after those that are
+    /// there.
     pub(crate) fn save(&self, name: &str, out: &mut Vec<u8>) -> Result<(), Fault> {
         match self.place_of(name) {
             Some(place) => self.save_at(place, out),
@@ -204,7 +238,8 @@ impl<W: Wire> Lab<W> {
         }
     }
 
-    // Adds the bytes of the state of the router at a place, with its older hosts, after those that are there.
+    // Adds the bytes of the state of the router at a place, with its listener and its older hosts, after those that are
+    // there.
     fn save_at(&self, place: usize, out: &mut Vec<u8>) -> Result<(), Fault> {
         let (Some(router), Some(station)) = (self.net.router(place), self.stations.get(place))
         else {
@@ -213,11 +248,13 @@ impl<W: Wire> Lab<W> {
         let mut own = Vec::new(self.alloc);
         router.save(&mut own)?;
         let hosts = saved_hosts(self.alloc, &Asked { router }, &station.presence)?;
-        write_saved(&hosts, &own, out)?;
+        let mut held = Vec::new(self.alloc);
+        write_saved(&hosts, &own, &mut held)?;
+        write_kept(station.listener.as_ref(), &held, out)?;
         Ok(())
     }
 
-    // Saves a router with its older hosts, and makes both anew of the bytes.
+    // Saves a router with its listener and its older hosts, and makes all anew of the bytes.
     fn restart(&mut self, at: At, lines: &mut Lines) -> Result<(), Trouble>
         ensures { IfErr result (λ t. IsFault t) }
     {
@@ -245,9 +282,41 @@ impl<W: Wire> Lab<W> {
         let is_done = outcome.answer.is_ok();
         self.print(at, outcome, lines)?;
         if is_done {
-            self.keep(at.router, reloaded)?;
+            let left = self.leave(at.router, &reloaded)?;
+            self.print_packets(at, left, lines)?;
+            let owed = self.keep(at.router, reloaded)?;
+            let given = self.give_owed(at.router, draw, owed)?;
+            self.print_packets(at, given, lines)?;
         }
         self.print_each(at, lines)
+    }
+
+    // Has a router that is no candidate RP any more, or another one, say that it goes.
+    fn leave(&mut self, router: usize, reloaded: &Reloaded) -> Result<Outcome, Trouble>
+        ensures { IfErr result (λ t. IsFault t) }
+    {
+        // Each move names one of the routers.
+        let Some(station) = self.stations.get(router) else {
+            return Err(Trouble::Fault(Fault::Failed));
+        };
+        let mut sent = Vec::new(self.alloc);
+        if let (Some(listener), false) = (&station.listener, station.stays_rp(reloaded)) {
+            station.candidacy.leave(self.alloc, listener, &mut sent)?;
+        }
+        self.net.send(router, &sent)?;
+        Ok(sent_alone(sent))
+    }
+
+    // Gives a router what it is owed once another configuration is kept.
+    fn give_owed(&mut self, router: usize, draw: u32, owed: Owed) -> Result<Outcome, Trouble>
+        ensures { IfErr result (λ t. IsFault t) }
+    {
+        // Each move names one of the routers.
+        let Some(station) = self.stations.get_mut(router) else {
+            return Err(Trouble::Fault(Fault::Failed));
+        };
+        let sent = learned::give_owed(self.alloc, &mut self.net, router, station, draw, owed)?;
+        Ok(sent_alone(sent))
     }
 
     // Refuses a move by which a router was to get sets of RPs that it can't have.
@@ -275,6 +344,7 @@ impl<W: Wire> Lab<W> {
             links,
             front,
             sets,
+            standing,
         } = next;
         let anycast = match Anycast::of(&config, sets.into_vec()) {
             Ok(anycast) => anycast,
@@ -286,6 +356,7 @@ impl<W: Wire> Lab<W> {
             text: front,
             anycast,
             learning,
+            standing,
         };
         let links = self.names.links(self.alloc, links)?;
         Ok(Ok(reloaded_of(self.alloc, config, links, fronts, places)?))
@@ -314,15 +385,15 @@ impl<W: Wire> Lab<W> {
     }
 
     // Keeps what the lab knows of another configuration of a router.
-    fn keep(&mut self, router: usize, reloaded: Reloaded) -> Result<(), Trouble>
+    fn keep(&mut self, router: usize, reloaded: Reloaded) -> Result<Owed, Trouble>
         ensures { IfErr result (λ t. IsFault t) }
     {
         // Each move names one of the routers.
-        let Some(station) = self.stations.get_mut(router) else {
+        let (Some(asked), Some(station)) = (self.net.router(router), self.stations.get_mut(router))
+        else {
             return Err(Trouble::Fault(Fault::Failed));
         };
-        station.reload(self.alloc, reloaded)?;
-        Ok(())
+        Ok(station.reload(self.alloc, reloaded, asked.present_moment())?)
     }
 
     // An event at a router, behind its fronts.
@@ -351,11 +422,12 @@ impl<W: Wire> Lab<W> {
         }
     }
 
-    // Prints what a router's listener heard, and what left by it, with the tables if they are printed.
+    // Prints what a router's listener heard, or the candidate beside it, and what left by it, with the tables if they are
+    // printed.
     fn print_heard(
         &mut self,
         at: At,
-        heard: Heard,
+        heard: CandidacyHeard,
         outcome: Outcome,
         lines: &mut Lines,
     ) -> Result<(), Trouble>
@@ -514,7 +586,8 @@ impl<W: Wire> Lab<W> {
             Some(router) => {
                 print_router(router, lines)?;
                 print_older(self.alloc, router, &station.presence, lines)?;
-                print_learned(station.listener.as_ref(), lines)
+                print_learned(station.listener.as_ref(), lines)?;
+                print_standing(&station.candidacy, lines)
             }
             None => Ok(()),
         }
@@ -578,6 +651,56 @@ fn print_waiting(listener: &Listener, lines: &mut Lines) -> Result<(), Trouble>
         lines.push(LearnedLine::waiting(*part))?;
     }
     Ok(())
+}
+
+// Prints what a router knows as a candidate BSR, and as a candidate RP.
+fn print_standing(candidacy: &Candidacy, lines: &mut Lines) -> Result<(), Trouble>
+    ensures { IfErr result (λ t. IsFault t) }
+{
+    if let Some(election) = candidacy.election() {
+        lines.push(RoleLine {
+            role: election.role,
+            end: election.end,
+        })?;
+    }
+    for held in candidacy.held() {
+        lines.push(HeldLine { held: *held })?;
+    }
+    print_gone(candidacy, lines)?;
+    print_told(candidacy, lines)
+}
+
+// Prints the ranges that a candidate BSR says without RPs.
+fn print_gone(candidacy: &Candidacy, lines: &mut Lines) -> Result<(), Trouble>
+    ensures { IfErr result (λ t. IsFault t) }
+{
+    for gone in candidacy.gone() {
+        lines.push(GoneLine { gone: *gone })?;
+    }
+    Ok(())
+}
+
+// Prints which BSR a candidate RP tells of itself.
+fn print_told(candidacy: &Candidacy, lines: &mut Lines) -> Result<(), Trouble>
+    ensures { IfErr result (λ t. IsFault t) }
+{
+    let advertising = candidacy.advertising();
+    if let Some(bsr) = advertising.bsr {
+        lines.push(ToldLine {
+            bsr,
+            end: advertising.end,
+        })?;
+    }
+    Ok(())
+}
+
+// An outcome of packets alone.
+fn sent_alone(sent: Vec<Emission>) -> Outcome {
+    Outcome {
+        answer: Ok(Verdict::Done),
+        emissions: Series::from_vec(sent),
+        copies: 0,
+    }
 }
 
 // The routers of a scenario, and the nodes of the network for them.

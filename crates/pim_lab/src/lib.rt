@@ -2,6 +2,7 @@
 #![tactic(auto)]
 
 mod front;
+mod kept;
 mod lab;
 mod learned;
 mod nodes;

@@ -1,5 +1,6 @@
 //! The routers of a scenario, as the lab and the network have them.
 ghost use Rattle.lab_parts.specs.Learning.{learning_of, new_listener};
+ghost use Rattle.lab_parts.specs.Standing.{standing_as};
 ghost use Rattle.lab_parts.specs.Stations.{nobody_behind, own_addresses};
 ghost use Rattle.pim_lab.specs.Statuses.{has_sets, router_node, sets_for};
 ghost use Rattle.pim_net.specs.Showing.{node_of};
@@ -43,6 +44,7 @@ pub(crate) fn station_of(alloc: Global, text: RouterText) -> Result<(Station, No
     ensures presence { IfOk result (λ made. made.0.presence ≡ nobody_behind text.config text.front.older_hosts) }
     ensures sets { IfOk result (λ made. made.0.anycast ≡ sets_for text.config text.sets) }
     ensures listener { IfOk result (λ made. made.0.listener ≡ new_listener (learning_of text.front text.config)) }
+    ensures candidacy { IfOk result (λ made. made.0.candidacy ≡ standing_as text.standing 0) }
 {
     let RouterText {
         name,
@@ -50,6 +52,7 @@ pub(crate) fn station_of(alloc: Global, text: RouterText) -> Result<(Station, No
         links,
         front,
         sets,
+        standing,
     } = text;
     let anycast = anycast_of(alloc, &config, sets);
     let learning = Learning::of(alloc, front, &config)?;
@@ -57,6 +60,7 @@ pub(crate) fn station_of(alloc: Global, text: RouterText) -> Result<(Station, No
         text: front,
         anycast,
         learning,
+        standing,
     };
     let numbers = link_numbers(alloc, links.as_slice())?;
     let station = Station::new(alloc, name, &config, links, fronts)?;

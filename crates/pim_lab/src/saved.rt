@@ -7,6 +7,7 @@ use crate::playing::{Opened, open_scenario, play_moves, print_tables};
 use igmp_older_saved::HeldRefusal;
 use lab_parts::{Lines, Trouble};
 use pim_anycast::BadRpSet;
+use pim_bsr::ListenerRefusal;
 use pim_net::{Unrestored, Wire};
 use pim_scenario::{Complaint, ScenarioMove, Tables};
 use pim_types::{Fault, Series};
@@ -35,6 +36,8 @@ pub(crate) enum Unresumed {
     Hosts,
     /// The router can't have its sets of RPs in that state.
     RpSets,
+    /// No listener for Bootstraps is made of the bytes.
+    Listener(ListenerRefusal),
 }
 
 /// What ends a run from saved states, or to one, before its end.
@@ -70,20 +73,19 @@ impl Unresumed {
             Unresumed::Router(Unrestored::OtherInterfaces) => {
                 told(err.writeln("pimlab: saved state has other interfaces"))
             }
-            Unresumed::Router(Unrestored::Bytes(refusal)) => {
-                let number = refusal.number();
-                told(err.writeln(format_args!("pimlab: saved state refused: {number}")))
-            }
-            Unresumed::Hosts => {
-                let number = HeldRefusal::HostsNotHeld.number();
-                told(err.writeln(format_args!("pimlab: saved state refused: {number}")))
-            }
-            Unresumed::RpSets => {
-                let number = BadRpSet::NUMBER;
-                told(err.writeln(format_args!("pimlab: saved state refused: {number}")))
-            }
+            Unresumed::Router(Unrestored::Bytes(refusal)) => tell_refused(refusal.number(), err),
+            Unresumed::Hosts => tell_refused(HeldRefusal::HostsNotHeld.number(), err),
+            Unresumed::RpSets => tell_refused(BadRpSet::NUMBER, err),
+            Unresumed::Listener(refusal) => tell_refused(refusal.number(), err),
         }
     }
+}
+
+// Writes the number of the refusal of a saved state, and returns the status of the program.
+fn tell_refused<E: Write>(number: u8, err: &mut E) -> u8
+    ensures { (result ≡ 2) ⊎ (result ≡ 3) }
+{
+    told(err.writeln(format_args!("pimlab: saved state refused: {number}")))
 }
 
 // The status where a saved state isn't taken: 3 where the line can't be written.

@@ -1,5 +1,5 @@
 -- Routes and RPs, by what was found on the way, and the nodes that were visited.
-use Rattle.std.{proofs.Common.{◌≡◌, ℕ, true, false, List, Option, Some, None, option_map, refl, arith}}
+use Rattle.std.proofs.Common.{◌≡◌, ℕ, true, false, List, Option, Some, None, refl, arith}
 use Rattle.pim_ip.{specs.{Prefixes.longest_match, Ipv4.is_source_specific}}
 use Rattle.pim_types.{specs.{declared.{config.{Route.Route, RpRange.RpRange, RpTable.RpTable}, fact.InterfaceRow.InterfaceRow}, Keys.iface_key}}
 use Rattle.pim_trie.{specs.Meter.raised}

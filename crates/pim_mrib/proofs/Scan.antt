@@ -1,5 +1,5 @@
 -- The candidates one after the other, the last first.
-use Rattle.std.{proofs.{Common.{◌≡◌, ℕ, zero, suc, ◌+◌, ◌<◌, Bool, true, false, cond, List, [], ◌∷◌, length, get_or, drop, Option, Some, None, refl, sym, ap, ◌∙◌, arith, add-one}, Math.Seq.drop-cons}, specs.Prelude.if◌then◌else◌}
+use Rattle.std.proofs.{Common.{◌≡◌, ℕ, suc, ◌+◌, ◌<◌, Bool, true, false, cond, List, [], ◌∷◌, length, get_or, drop, Option, Some, None, refl, sym, ap, add-one}, Math.Seq.drop-cons}
 use Rattle.pim_ip.{specs.Prefixes.contains}
 use Rattle.pim_types.{specs.declared.config.RpCandidate.RpCandidate}
 use Rattle.pim_model.{specs.Candidates.{chosen, chosen_among}}

@@ -5,9 +5,9 @@ ghost use Rattle.pim_model.specs.Unicast.{nearer_rp};
 
 use pim_types::{Addr, RpCandidate, RpRange};
 
-// The group's bits under the mask of the hash function.
+/// The first so many bits of a group; the rest are 0. More than 32 are all.
 #[tactic(auto, unfolding(pim_model::specs::Candidates::masked))]
-fn masked(length: u32, group: Addr) -> u64
+pub fn masked(length: u32, group: Addr) -> u64
     ensures value { result ≡ masked length group.bits }
     ensures small { result < 2 ^ 32 }
 {
@@ -16,9 +16,9 @@ fn masked(length: u32, group: Addr) -> u64
     group / host * host
 }
 
-// The hash function's value for a group and an RP (RFC 7761, section 4.7.2).
+/// The hash function's value for a group and an RP, with a mask of so many bits (RFC 7761, section 4.7.2).
 #[tactic(auto, unfolding(pim_model::specs::Candidates::hash_value))]
-fn hash_value(length: u32, group: Addr, rp: Addr) -> u32
+pub fn hash_value(length: u32, group: Addr, rp: Addr) -> u32
     ensures { result ≡ hash_value length group.bits rp.bits }
 {
     let first = 1_103_515_245 * masked(length, group) + 12_345;

@@ -6,4 +6,5 @@ mod limits;
 pub mod mrib;
 mod prefix_list;
 
+pub use choice::{hash_value, masked};
 pub use mrib::Mrib;

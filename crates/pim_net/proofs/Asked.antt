@@ -1,7 +1,7 @@
 -- In a run of a network each copy has a cause, and what led to each router's state goes on.
-use Rattle.std.{proofs.Common.{◌≡◌, ◌∙◌, Bool, true, false, List, [], ◌∷◌, ◌++◌, ℕ, Option, Some, None, map, Ok, Err, Result, sym, ap, subst, Global, Vec}, specs.Prelude.{IfOk, IfSome, OnOk, if◌then◌else◌}}
+use Rattle.std.{proofs.Common.{◌≡◌, ◌∙◌, Bool, true, false, List, [], ◌∷◌, ◌++◌, Option, Some, None, map, Ok, Err, Result, sym, ap, subst, Global, Vec}, specs.Prelude.{IfOk, IfSome, OnOk, if◌then◌else◌}}
 use Rattle.pim_ip.{specs.declared.fault.Fault.Fault}
-use Rattle.pim_types.{specs.declared.{config.Config.Config, event.Event.Event, outcome.Outcome.Outcome}}
+use Rattle.pim_types.specs.declared.{event.Event.Event, outcome.Outcome.Outcome}
 use Rattle.law_streams.{specs.Networks.{events_in, outcomes_in}, proofs.Networks.runs_alone}
 use Rattle.law_states.{specs.History.{AreAccepted, Given, IsLedTo, past_given}, proofs.{Asked.nothing_flows_unasked_over_reloads, Histories.{calls_lead_on, events_alone_are_a_run}}}
 use Rattle.pim_model.{specs.{Cause.OutcomesAreAsked, Network.{Network, Station, network_ran, station_at}, State.{State, opening}, Step.step}}

@@ -1,5 +1,5 @@
 -- The nodes of a network, opened one after the other.
-use Rattle.std.{proofs.{Common.{◌≡◌, ◌∙◌, ◌≤◌, ◌<◌, ◌+◌, ◌*◌, ◌&&◌, ℕ, suc, Bool, true, false, List, [], ◌∷◌, ◌++◌, length, map, Option, Some, Result, Ok, Err, refl, sym, ap, arith, append_assoc, append-nil, length-append, nat_le}, lemmas.Bool.Decides.nat_tests}, specs.List.list_all}
+use Rattle.std.{proofs.{Common.{◌≡◌, ◌∙◌, ◌≤◌, ◌+◌, ◌*◌, ◌&&◌, ℕ, suc, Bool, true, false, List, [], ◌∷◌, ◌++◌, length, map, Option, Some, Ok, Err, refl, sym, ap, arith, append_assoc, append-nil, length-append, nat_le}, lemmas.Bool.Decides.nat_tests}, specs.List.list_all}
 use Rattle.pim_ip.{specs.{Tests.{expect, ◌>>◌}, declared.refusal.Refusal.Refusal}}
 use Rattle.pim_types.{specs.declared.config.Config.Config}
 use Rattle.pim_model.{specs.{Limits.config_test, Network.{Sent, Station, configs_test, is_node, most_routers, network, nodes_test, station_of}}}

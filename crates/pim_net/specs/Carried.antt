@@ -1,5 +1,5 @@
 -- What moves require of a wire, whichever it is, and what the network becomes by what the wire returns.
-use Rattle.std.{specs.{Option.option_map_or, Prelude.{Bool, IsSome, List, None, Option, Some, [], get_or, length, option_and_then, option_map, slice_get, take, true, ℕ, ◌+◌, ◌<◌, ◌≡◌, ◌∷◌}}}
+use Rattle.std.specs.{Option.option_map_or, Prelude.{Bool, IsSome, List, None, Option, Some, [], get_or, length, option_and_then, option_map, slice_get, take, ℕ, ◌+◌, ◌<◌, ◌≡◌, ◌∷◌}}
 use Rattle.pim_types.{specs.declared.{config.IfaceId.IfaceId, event.{Event.Event, EventKind.EventKind}, outcome.Outcome.Outcome}}
 use Rattle.pim_model.{specs.Network.{Network, Station, event_of, moved, moved_at, station_at}}
 use Rattle.lab_parts.{specs.Carrying.IsCarried}

@@ -1,9 +1,9 @@
 -- Whether an interface may move what has facts, by what is looked up.
-use Rattle.std.{proofs.{Common.{◌≡◌, ◌==◌, ◌&&◌, ◌||◌, ◌++◌, ℕ, Bool, true, false, List, [], ◌∷◌, Option, Some, None, is_some, refl, ap, ◌∙◌, arith}, Math.Bool.or_assoc, lemmas.List.Folds.list_any-append}, specs.{List.list_any, Option.option_map_or, Prelude.slice_get}}
+use Rattle.std.{proofs.{Common.{◌≡◌, ◌==◌, ◌&&◌, ◌||◌, ◌++◌, ℕ, Bool, true, false, List, [], ◌∷◌, Some, None, is_some, refl, arith}, Math.Bool.or_assoc, lemmas.List.Folds.list_any-append}, specs.{List.list_any, Prelude.slice_get}}
 use Rattle.pim_ip.{specs.Prefixes.contains}
-use Rattle.pim_types.{specs.{declared.{config.{InterfaceConfig.InterfaceConfig, Route.Route, RpCandidate.RpCandidate, RpRange.RpRange}, fact.Key.Key}, Keys.source_in}}
+use Rattle.pim_types.specs.declared.{config.{InterfaceConfig.InterfaceConfig, Route.Route, RpCandidate.RpCandidate, RpRange.RpRange}, fact.Key.Key}
 use Rattle.pim_model.{specs.{State.State, Unicast.{any_rp, subnet}, Upstream.fact_keys}}
-use Rattle.law_events.{specs.Switched.{is_in_subnet, may_lead_over}}
+use Rattle.law_events.specs.Switched.{may_lead_over}
 use Rattle.pim_state.{specs.Sources.is_within}
 
 module _ (s : State) (i : ℕ) where

@@ -1,5 +1,5 @@
 -- A source's fact is under the key of its name.
-use Rattle.std.{proofs.Common.{◌≡◌, ◌==◌, ◌&&◌, ap, refl, sym, ◌∙◌, ℕ, Bool, true, false, not, is_some, List, [], ◌∷◌, Option, Some, None, filter, map, eqb-true}, specs.{Cmp.{first_so, second_so}, List.list_all}}
+use Rattle.std.{proofs.Common.{◌≡◌, ◌==◌, ◌&&◌, ap, refl, sym, ◌∙◌, ℕ, Bool, true, false, not, is_some, List, [], ◌∷◌, Option, Some, None, map, eqb-true}, specs.{Cmp.{first_so, second_so}, List.list_all}}
 use Rattle.pim_ip.{specs.declared.addr.Addr.Addr}
 use Rattle.pim_types.{specs.{Keys.{group_in, source_in, source_key}, declared.fact.Key.Key}}
 use Rattle.pim_model.{specs.Tables.{Table, keys_in}}

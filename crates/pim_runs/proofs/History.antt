@@ -1,8 +1,8 @@
 -- The premises, computed.
-use Rattle.std.{proofs.Common.{◌≡◌, ◌∷◌, [], Ok, refl}}
+use Rattle.std.proofs.Common.{◌≡◌, Ok, refl}
 use Rattle.pim_model.{specs.Limits.config_test}
 use Rattle.law_plane.{specs.Keeping.{keep, keepalive_end, kept_until}}
-use Rattle.law_states.{specs.{Reloading.{asserts_under, goodbyes, hellos_anew, is_won_before, leaves_address, queriers_under, reload, removals, replaced, says_same, tells_anew, under}, History.{AreAccepted, IsLedTo, past_given, state_given}}, proofs.Asked.call_is_asked}
+use Rattle.law_states.{specs.{Reloading.{asserts_under, goodbyes, hellos_anew, is_won_before, leaves_address, queriers_under, reload, removals, replaced, says_same, tells_anew, under}, History.{IsLedTo, state_given}}, proofs.Asked.call_is_asked}
 use Rattle.pim_runs.{specs.{Words.frame, ServedChain.sent_packet, Switch.switching, History.{CopyIsMade, CopyIsAskedFor, HistoryLeads, before, smaller, then}}, proofs.OnLiterals.machine_on_literals}
 
 accepted : config_test switching ≡ Ok tt

@@ -1,10 +1,10 @@
 -- The premises, computed.
-use Rattle.std.{proofs.Common.{◌≡◌, ℕ, Ok, refl, lit≤, lit<}}
+use Rattle.std.proofs.Common.{◌≡◌, Ok, refl, lit≤, lit<}
 use Rattle.pim_ip.{specs.Ipv4.packet_of}
 use Rattle.pim_model.{specs.Limits.config_test}
 use Rattle.law_settled.{specs.Ready.IsSettled, proofs.Steps.run_is_settled}
-use Rattle.law_streams.{specs.{Passing.Receiver, Served.Came, LastHop.CanChange, Turning.may_turn}, proofs.{Passing.stays_settled, LastHop.last_hop_sets_spt_bit}}
-use Rattle.pim_runs.{specs.{ServedChain.{asked_group, sender, sent_packet}, Switch.{asked, first_on_source, meets, on_shared, still_shared, switching}, LastHop.{LastHopCanChange, LastHopChanges}}, proofs.OnLiterals.machine_on_literals}
+use Rattle.law_streams.{specs.{Passing.Receiver, Turning.may_turn}, proofs.{Passing.stays_settled, LastHop.last_hop_sets_spt_bit}}
+use Rattle.pim_runs.{specs.{ServedChain.sent_packet, Switch.{asked, first_on_source, meets, on_shared, still_shared, switching}, LastHop.{LastHopCanChange, LastHopChanges}}, proofs.OnLiterals.machine_on_literals}
 
 accepted : config_test switching ≡ Ok tt
 unfolding machine_on_literals

@@ -1,9 +1,9 @@
 -- The premises, computed.
-use Rattle.std.{proofs.{Common.{◌≡◌, suc, ◌+◌, ◌*◌, ◌<◌, ◌≤◌, inl, inr, false, [], ◌∷◌, drop, length, Some, None, Ok, refl, lit≤, lit<}, lemmas.List.Elements.All-nil}}
-use Rattle.pim_types.{specs.declared.{event.Event.Event, fact.JoinTimerRow.JoinTimerRow}}
-use Rattle.pim_model.{specs.{declared.accepted.Accepted.Accepted, Full.is_full, Limits.config_test, Network.{At, Deliver, Move, Network, Station, moved, network_ran, station_at}, State.opening}}
+use Rattle.std.proofs.{Common.{◌≡◌, suc, ◌+◌, ◌*◌, ◌<◌, ◌≤◌, inl, false, [], ◌∷◌, drop, length, Some, None, Ok, refl, lit≤, lit<}, lemmas.List.Elements.All-nil}
+use Rattle.pim_types.specs.declared.fact.JoinTimerRow.{JoinTimerRow}
+use Rattle.pim_model.specs.{declared.accepted.Accepted.Accepted, Full.is_full, Limits.config_test, Network.{At, Deliver, Move, Network, Station, moved, station_at}, State.opening}
 use Rattle.law_events.{proofs.Rest.{opening_is_at_rest, run_is_at_rest}}
-use Rattle.law_streams.{specs.{Joins.{Hears, IsWritable, join_packet, join_value}, InTimeJoins.{Always, AreThere, ComeInTime, IsCovered, IsJoin, IsReady, Wants, entry_of, frame_of, prunes_of, time_at}, Shared.{ComesFrom, IsOnLink, IsSeenFrom, IsTakenFrom, frame_from}}, proofs.{Timed.run_is_timed, Computed.{at_another, no_others, none_new, none_pruned, one_other, stand, stands_there, timely, with_station, with_timer}, Pairs.joins_are_shared, Shared.{all_above, frames_come_to_both}}}
+use Rattle.law_streams.{specs.{Joins.{Hears, IsWritable, join_packet, join_value}, InTimeJoins.{Always, AreThere, IsCovered, IsReady, Wants, entry_of, frame_of, prunes_of, time_at}, Shared.{ComesFrom, IsOnLink, frame_from}}, proofs.{Timed.run_is_timed, Computed.{at_another, no_others, none_new, none_pruned, one_other, stand, stands_there, timely, with_station, with_timer}, Pairs.joins_are_shared, Shared.{all_above, frames_come_to_both}}}
 use Rattle.pim_runs.{specs.{Words.advance, ServedChain.{asked_group, first, second, station}, InTime.{joined, late, started}, OnLink.{JoinIsOverheardInTime, JoinIsSuppressed, SharedStaysHeld, first_asked, other_address, pair, second_joined, sent, shares, three}}, proofs.{InTime.its_group, OnLiterals.machine_on_literals}}
 
 abbrev nowhere : Station

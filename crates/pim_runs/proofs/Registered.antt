@@ -1,9 +1,9 @@
 -- The premises, computed.
-use Rattle.std.{proofs.Common.{◌≡◌, ◌+◌, ◌⊎◌, inl, [], ◌∷◌, length, Ok, None, Some, false, refl, lit≤, lit<}}
+use Rattle.std.proofs.Common.{◌≡◌, ◌+◌, inl, [], ◌∷◌, length, Ok, None, Some, false, refl, lit≤, lit<}
 use Rattle.pim_ip.{specs.Ipv4.{is_link_local, packet_of}}
 use Rattle.pim_model.{specs.{Limits.config_test, Network.station_at, Registers.registering_address}}
 use Rattle.law_settled.{specs.Ready.IsSettled, proofs.Steps.run_is_settled}
-use Rattle.law_streams.{specs.{Joins.join_packet, Ways.{AreApart, IsNotAmong, StandIn, state_of}, Passing.{Receiver, Tree}, StreamRoots.Sends, Sources.{IsSent, Registers}, Streams.{IsStreamed, PassesAt}, Registered.{AreAddresses, CanDecapsulate}}, proofs.SourceTreeRegistered.registered_is_served}
+use Rattle.law_streams.{specs.{Joins.join_packet, Ways.{StandIn, state_of}, Passing.{Receiver, Tree}, StreamRoots.Sends, Sources.{IsSent, Registers}, Streams.{IsStreamed, PassesAt}, Registered.{AreAddresses, CanDecapsulate}}, proofs.SourceTreeRegistered.registered_is_served}
 use Rattle.pim_runs.{specs.{Registered.{SourceIsRegistered, dr_there, first_asked, first_there, from_source, root_there, second_asked, second_there, third_asked, with_dr}, ServedChain.{asked_group, content, first, packet_living, root, second, sender, third}, StreamChain.{receivers, trees}}, proofs.OnLiterals.machine_on_literals}
 
 accepted_first : config_test first ≡ Ok tt

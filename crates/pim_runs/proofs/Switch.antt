@@ -1,5 +1,5 @@
 -- The premises, computed.
-use Rattle.std.{proofs.Common.{◌≡◌, [], Ok, false, true, refl, lit≤, ℕ}}
+use Rattle.std.proofs.Common.{◌≡◌, Ok, false, true, refl, lit≤}
 use Rattle.pim_runs.{specs.{ServedChain.{asked_group, sender}, Switch.{StreamChangesTree, asked, first_on_source, meets, on_shared, on_source, still_shared, switched, switching}}, proofs.OnLiterals.machine_on_literals}
 use Rattle.pim_model.{specs.Limits.config_test}
 use Rattle.law_settled.{specs.Ready.IsSettled, proofs.Steps.{run_is_settled, step_is_settled}}

@@ -1,5 +1,5 @@
 -- Two routers on a link below a third. One repeats its Join, which the other sees, so that it holds its own back.
-use Rattle.std.{specs.Prelude.{List, Some, [], length, option_map, slice_get, unwrap_or, ℕ, ◌++◌, ◌∷◌, ◌≡◌}}
+use Rattle.std.specs.Prelude.{List, Some, [], length, unwrap_or, ℕ, ◌++◌, ◌∷◌, ◌≡◌}
 use Rattle.pim_ip.{specs.Ipv4.igmp_packet_text}
 use Rattle.igmp_wire.{specs.Reports.report_text}
 use Rattle.pim_types.{specs.declared.{config.Config.Config, event.Event.Event}}

@@ -1,7 +1,7 @@
 -- One byte that is changed changes the sum: a register's new top byte tells which entry of the table it took.
 use lib.Bits.{xor_assoc, xor_comm, xor_mod, xor_self, xor_shr, xor_zero_r}
-use Rattle.std.{proofs.{Common.{◌≡◌, ◌∙◌, ℕ, zero, suc, ◌+◌, ◌-◌, ◌*◌, ◌/◌, ◌%◌, ◌<◌, ◌≤◌, ◌^◌, Bool, true, false, eqb, ◌&&◌, List, [], ◌∷◌, ◌++◌, get_or, refl, sym, ap, arith}, lemmas.Bool.eqb-true}, specs.{Cmp.{first_so, second_so}, Int.Bits.bit_xor}}
-use Rattle.pim_saved.{specs.{Crc.{after_bytes, begun, crc32, ended, entry, shifted, with_byte}, Laws.OneByteIsSummed}, proofs.Summed.{after_fits, byte_fits}}
+use Rattle.std.{proofs.{Common.{◌≡◌, ◌∙◌, ℕ, zero, suc, ◌+◌, ◌-◌, ◌/◌, ◌%◌, ◌<◌, ◌^◌, Bool, true, eqb, ◌&&◌, List, [], ◌∷◌, ◌++◌, get_or, refl, sym, ap, arith}, lemmas.Bool.eqb-true}, specs.{Cmp.{first_so, second_so}, Int.Bits.bit_xor}}
+use Rattle.pim_saved.{specs.{Crc.{after_bytes, begun, entry, shifted, with_byte}, Laws.OneByteIsSummed}, proofs.Summed.{after_fits, byte_fits}}
 
 xor_cancel : (a b m : ℕ) → bit_xor a m ≡ bit_xor b m → a ≡ b
 xor_cancel a b m e = sym (again a) ∙ ap (λ (x : ℕ). bit_xor x m) e ∙ again b where

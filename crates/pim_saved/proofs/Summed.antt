@@ -1,6 +1,6 @@
 -- The sum at the end of a state's bytes: what it is behind, and that it fits its width.
-use Rattle.std.{proofs.{Common.{◌≡◌, ℕ, ◌+◌, ◌-◌, ◌*◌, ◌/◌, ◌%◌, ◌<◌, ◌≤◌, ◌^◌, Bool, true, false, cond, eqb, Result, Ok, Err, List, [], ◌∷◌, ◌++◌, length, take, drop, refl, sym, ap, subst, ◌∙◌, arith}, lemmas.{Bool.{eqb-true, eq-eqb}, List.{append-nil, take_at, drop_at, length-append}, Nat.xor_of_32}}, specs.{Int.Bits.bit_xor}}
-use Rattle.pim_saved.{specs.{Crc.{after_bytes, begun, crc32, ended, entry, shifted, with_byte}, Fits.FitsWord, Laws.CrcIsKnown, Reading.{◌>>=◌, undamaged, word_at}, Text.word_text, declared.refusal.SavedRefusal.SavedRefusal}, proofs.Spelled.word}
+use Rattle.std.{proofs.{Common.{◌≡◌, ℕ, ◌+◌, ◌-◌, ◌/◌, ◌%◌, ◌<◌, ◌^◌, Bool, true, false, cond, eqb, Result, Ok, Err, List, [], ◌∷◌, ◌++◌, length, take, drop, refl, sym, ap, ◌∙◌, arith}, lemmas.{Bool.{eqb-true, eq-eqb}, List.{append-nil, take_at, drop_at, length-append}, Nat.xor_of_32}}, specs.Int.Bits.bit_xor}
+use Rattle.pim_saved.{specs.{Crc.{after_bytes, begun, crc32, entry, shifted, with_byte}, Fits.FitsWord, Laws.CrcIsKnown, Reading.{◌>>=◌, undamaged, word_at}, Text.word_text, declared.refusal.SavedRefusal.SavedRefusal}, proofs.Spelled.word}
 
 shifted_fits : (c : ℕ) → c < 2 ^ 32 → shifted c < 2 ^ 32
 unfolding shifted

@@ -1,6 +1,5 @@
 -- One byte that is changed is told: bytes that differ in one byte aren't both read.
 use Rattle.std.{proofs.{Common.{◌≡◌, ◌∙◌, ℕ, zero, suc, ◌+◌, ◌-◌, ◌<◌, ◌≤◌, ◌^◌, ⊎_elim, List, [], ◌∷◌, ◌++◌, length, take, drop, get_or, refl, sym, ap, subst, arith}, lemmas.{Bool.cases_lt, List.{take_at, drop_at, length-append}, Nat.from_be_bytes-to_be_bytes_4}}, specs.Int.{w32, from_be_bytes}}
-use Rattle.pim_model.{specs.State.State}
 use Rattle.pim_saved.{specs.{Crc.crc32, Laws.{AreBytes, OneByteIsTold}, Text.{front_text, text, word_text}}, proofs.{Changed.one_byte_is_summed, SpelledStates.reading_is_text, Summed.sum_fits}}
 
 -- the first n, where the changed byte is among them, and where it isn't

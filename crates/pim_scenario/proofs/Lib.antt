@@ -15,4 +15,5 @@ pub mod PieceTexts
 pub mod PieceValues
 pub mod ReadLemmas
 pub mod RouteLemmas
+pub mod StandingLemmas
 pub mod WordLemmas

@@ -1,5 +1,5 @@
 -- The values at the keys of a table of a scenario.
-use Rattle.std.{specs.{Prelude.{ℕ, ℤ, pos, negsuc, ◌^◌, Bool, List, [], ◌∷◌, Option, Some, None, option_map, option_and_then, if◌then◌else◌, nat_lt}, List.{list_all, list_any}, Str.bytes_eq}}
+use Rattle.std.{specs.{Prelude.{ℕ, ℤ, pos, negsuc, ◌^◌, Bool, List, [], ◌∷◌, Option, Some, None, option_map, option_and_then, if◌then◌else◌, nat_le, nat_lt, ◌&&◌}, List.{list_all, list_any}, Str.bytes_eq}}
 use Rattle.toml.{specs.Data.{Data, Items, no_items, item, Members, no_members, member, get_member, as_bool, as_str, as_integer, as_array, as_table}}
 
 -- A number from 0 and below 2^32.
@@ -50,6 +50,13 @@ read_or read default (Some d) = read d
 abbrev pub number_or : ℕ → List ℕ → Members → Option ℕ
 number_or default key ms = read_or number_in default (get_member key ms)
 
+-- a number, if it lies between two others
+abbrev pub between : ℕ → ℕ → ℕ → Option ℕ
+between least most n = if nat_le least n && nat_le n most then Some n else None
+
+abbrev pub number_between : ℕ → ℕ → ℕ → List ℕ → Members → Option ℕ
+number_between least most default key ms = option_and_then (between least most) (number_or default key ms)
+
 abbrev pub flag_or : Bool → List ℕ → Members → Option Bool
 flag_or default key ms = read_or as_bool default (get_member key ms)
 
@@ -58,6 +65,9 @@ list_or_empty key ms = read_or list_of [] (get_member key ms)
 
 abbrev pub optional_text : List ℕ → Members → Option (Option (List ℕ))
 optional_text key ms = read_or (λ d. option_map (λ t. Some t) (as_str d)) None (get_member key ms)
+
+abbrev pub optional_table : List ℕ → Members → Option (Option Members)
+optional_table key ms = read_or (λ d. option_map (λ t. Some t) (as_table d)) None (get_member key ms)
 
 -- The keys, in their order.
 abbrev pub member_names : Members → List (List ℕ)

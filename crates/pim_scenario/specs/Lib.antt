@@ -4,5 +4,6 @@ pub mod Fields
 pub mod Links
 pub mod Pieces
 pub mod Scenario
+pub mod Standing
 pub mod Texts
 pub mod Words

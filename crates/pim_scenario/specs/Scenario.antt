@@ -5,7 +5,8 @@ use Rattle.pim_ip.{specs.declared.addr.Addr.Addr}
 use Rattle.pim_types.{specs.declared.{config.{Config.Config, InterfaceConfig.InterfaceConfig, Route.Route, RpCandidate.RpCandidate, RpRange.RpRange, SptSwitch.{SptSwitch, TheVariants.{Always, Never}}}, event.EventKind.EventKind}}
 use Rattle.igmp_older.{specs.declared.setting.{OlderHosts.OlderHosts, QueryVersion.QueryVersion}}
 use Rattle.pim_anycast.{specs.declared.set.RpSet.RpSet}
-use Rattle.pim_scenario.{specs.{declared.scenario.{ConfigText.ConfigText, FrontText.FrontText, Link.Link, RouterText.RouterText, ScenarioMove.{ScenarioMove, TheVariants.{Event, Deliver, Carry, Reload, Restart, Settle}}, Scenario.Scenario}, Fields.{has_only, table_at, text_at, optional_text, number_at, number_or, flag_or, moment_at, list_at, list_or_empty}, Texts.{IsNumberText, IsAddressText, IsPrefixText, hex_of}, Words.AreWords}}
+use Rattle.pim_bsr.{specs.declared.choice.Choice.Choice}
+use Rattle.pim_scenario.{specs.{declared.scenario.{ConfigText.ConfigText, FrontText.FrontText, Link.Link, RouterText.RouterText, ScenarioMove.{ScenarioMove, TheVariants.{Event, Deliver, Carry, Reload, Restart, Settle}}, Scenario.Scenario}, Fields.{has_only, table_at, text_at, optional_text, number_at, number_or, flag_or, moment_at, list_at, list_or_empty}, Texts.{IsNumberText, IsAddressText, IsPrefixText, hex_of}, Standing.IsStanding, Words.AreWords}}
 use Rattle.pim_types.specs.declared.event.EventKind.TheVariants as event
 
 -- ---- own addresses, routes and RP ranges
@@ -153,6 +154,16 @@ rp_limit_at ms = option_and_then rp_limit_numbered (number_or 256 (codes "rp_lim
 abbrev pub bsr_at : Members → Option Bool
 bsr_at ms = flag_or false (codes "bsr") ms
 
+abbrev pub choice_named : Option (List ℕ) → Option Choice
+choice_named None = Some Choice.Range
+choice_named (Some name) =
+    if bytes_eq name (codes "range") then Some Choice.Range
+    else (if bytes_eq name (codes "group") then Some Choice.Group else None)
+
+-- what a learned RP is chosen for
+abbrev pub choice_at : Members → Option Choice
+choice_at ms = option_and_then choice_named (optional_text (codes "choice") ms)
+
 -- what stands before a router
 abbrev pub front_at : Members → Option FrontText
 front_at ms =
@@ -160,20 +171,23 @@ front_at ms =
     option_and_then (λ version.
     option_and_then (λ guard.
     option_and_then (λ bsr.
-    option_map (λ limit. record {
+    option_and_then (λ limit.
+    option_map (λ choice. record {
       older_hosts = hosts;
       query_version = version;
       guard = guard;
       bsr = bsr;
       rp_limit = limit;
+      choice = choice;
     })
-    (rp_limit_at ms)) (bsr_at ms)) (guard_at ms)) (query_version_at ms)) (older_hosts_at ms)
+    (choice_at ms)) (rp_limit_at ms)) (bsr_at ms)) (guard_at ms)) (query_version_at ms)) (older_hosts_at ms)
 
 abbrev pub router_keys : List (List ℕ)
 router_keys =
     codes "name" ∷ codes "iface" ∷ codes "limit" ∷ codes "spt" ∷ codes "rv" ∷ codes "qi" ∷ codes "qri"
     ∷ codes "lmqi" ∷ codes "older_hosts" ∷ codes "query_version" ∷ codes "guard"
-    ∷ codes "anycast" ∷ codes "bsr" ∷ codes "rp_limit" ∷ codes "addresses" ∷ codes "routes" ∷ codes "rps" ∷ []
+    ∷ codes "anycast" ∷ codes "bsr" ∷ codes "rp_limit" ∷ codes "choice" ∷ codes "candidate_bsr" ∷ codes "candidate_rp"
+    ∷ codes "addresses" ∷ codes "routes" ∷ codes "rps" ∷ []
 
 -- A table `router` is a router with its name, its links and its configuration.
 pub record IsRouter (ms : Members) (r : RouterText) : Type 0 where
@@ -184,6 +198,7 @@ pub record IsRouter (ms : Members) (r : RouterText) : Type 0 where
   pub config : IsConfig ms r.config
   pub front : front_at ms ≡ Some r.front
   pub sets : AreRead (IsText AreSetWords) (list_or_empty (codes "anycast") ms) r.sets
+  pub standing : IsStanding ms r.standing
 
 -- ---- another configuration of a router
 
@@ -192,7 +207,8 @@ abbrev pub config_keys : List (List ℕ)
 config_keys =
     codes "iface" ∷ codes "limit" ∷ codes "spt" ∷ codes "rv" ∷ codes "qi" ∷ codes "qri" ∷ codes "lmqi"
     ∷ codes "older_hosts" ∷ codes "query_version" ∷ codes "guard" ∷ codes "anycast" ∷ codes "bsr"
-    ∷ codes "rp_limit" ∷ codes "addresses" ∷ codes "routes" ∷ codes "rps" ∷ []
+    ∷ codes "rp_limit" ∷ codes "choice" ∷ codes "candidate_bsr" ∷ codes "candidate_rp" ∷ codes "addresses"
+    ∷ codes "routes" ∷ codes "rps" ∷ []
 
 abbrev pub NamesLink : {Z : Type 0} → Members → String Z → Type 0
 NamesLink ms name = text_at (codes "link") ms ≡ Some (string_bytes name)
@@ -205,6 +221,7 @@ pub record IsConfigText (ms : Members) (c : ConfigText) : Type 0 where
   pub config : IsConfig ms c.config
   pub front : front_at ms ≡ Some c.front
   pub sets : AreRead (IsText AreSetWords) (list_or_empty (codes "anycast") ms) c.sets
+  pub standing : IsStanding ms c.standing
 
 -- ---- the routers of a scenario
 

@@ -11,5 +11,6 @@ pub use command_line::{Answer, Command, Tables, WireKind, Words, read_words};
 pub use complaint::{Complaint, ScenarioRefusal, fault, refused};
 pub use file::load;
 pub use scenario::{
-    ConfigText, FrontText, Link, RouterText, Scenario, ScenarioMove, read_scenario,
+    BsrText, ConfigText, FrontText, Link, RouterText, RpText, Scenario, ScenarioMove, StandingText,
+    read_scenario,
 };

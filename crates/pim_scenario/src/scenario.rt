@@ -17,11 +17,13 @@ mod reload;
 mod router;
 mod routes;
 mod sets;
+mod standing;
 mod words;
 
 use igmp_older::{OlderHosts, QueryVersion};
 use pim_anycast::RpSet;
-use pim_types::{Config, Event, Fault, IfaceId, Refusal, Series};
+use pim_bsr::Choice;
+use pim_types::{Addr, Config, Event, Fault, IfaceId, Prefix, Refusal, Series};
 use std::alloc::{AllocError, AllocFailed, Global};
 use toml::Table;
 
@@ -46,11 +48,44 @@ pub struct FrontText {
     pub bsr: bool,
     /// How many of the RPs that they say are kept at most, from 1 to 256.
     pub rp_limit: u32,
+    /// What one of these RPs is chosen for.
+    pub choice: Choice,
 }
 
 impl FrontText {
     /// How many RP ranges a router takes.
     pub const MOST_RPS: u32 = 256;
+}
+
+/// A candidate BSR.
+#[derive(Clone, Copy)]
+pub struct BsrText {
+    /// One of the router's own.
+    pub address: Addr,
+    /// The higher number is preferred.
+    pub priority: u8,
+    /// The length of the hash mask that it says, from 0 to 32.
+    pub hash_length: u8,
+    /// How many RPs of ranges it holds at most, from 1 to 255.
+    pub limit: u8,
+}
+
+/// A candidate RP.
+#[derive(Drop)]
+pub struct RpText {
+    /// One of the router's own.
+    pub address: Addr,
+    /// The lower number is preferred.
+    pub priority: u8,
+    /// The ranges of groups of which it is an RP, from 1 to 183.
+    pub ranges: Series<Prefix>,
+}
+
+/// As what a router stands in an election of RFC 5059.
+#[derive(Drop)]
+pub struct StandingText {
+    pub bsr: Option<BsrText>,
+    pub rp: Option<RpText>,
 }
 
 /// A router of a scenario.
@@ -64,6 +99,7 @@ pub struct RouterText {
     pub front: FrontText,
     /// The sets of RPs that share an address, as the scenario has them: they haven't been tested yet.
     pub sets: Series<RpSet>,
+    pub standing: StandingText,
 }
 
 /// Another configuration of a router.
@@ -76,6 +112,7 @@ pub struct ConfigText {
     pub front: FrontText,
     /// The sets of RPs that share an address, as the scenario has them: they haven't been tested yet.
     pub sets: Series<RpSet>,
+    pub standing: StandingText,
 }
 
 /// What a scenario requests. A router is named by its place among the routers, from 0, and a frame by its number among

@@ -1,9 +1,9 @@
 -- What the guard lets through it lets through as the sets of RPs give it too: a Register that counts as one to the shared
 -- address brings what the copy brought.
-use Rattle.std.{specs.{Option.option_map_or}, proofs.{Common.{◌≡◌, ◌∙◌, ◌++◌, ◌+◌, ◌-◌, ◌<◌, ◌^◌, ◌&&◌, ◌==◌, ap, refl, sym, subst, arith, ℕ, Bool, true, false, not, nat_lt, cond, List, [], drop, length, slice_range, take, Option, Some, None, option_map, Result, Ok, Err, if◌then◌else◌}, lemmas.List.{append-nil, take_at}}}
+use Rattle.std.{specs.Option.option_map_or, proofs.{Common.{◌≡◌, ◌∙◌, ◌+◌, ◌-◌, ◌<◌, ◌^◌, ◌&&◌, ◌==◌, ap, refl, sym, subst, arith, ℕ, Bool, true, false, not, nat_lt, cond, List, [], length, slice_range, take, Option, Some, None, option_map, Result, Ok, Err, if◌then◌else◌}, lemmas.List.{append-nil, take_at}}}
 use Rattle.byteorder.{specs.Numbers.big_number-reads_back}
 use Rattle.pim_ip.{specs.{Checksum.with_checksum, Ipv4.{Packet, header_text, ipv4_reading, packet_of, pim_packet_text, protocol_pim, total_length_of}, declared.refusal.Refusal.Refusal}}
-use Rattle.pim_types.{specs.declared.{config.RpTable.RpTable, event.{Event.Event, EventKind.EventKind}}}
+use Rattle.pim_types.specs.declared.{config.RpTable.RpTable, event.EventKind.EventKind}
 use Rattle.pim_wire.{specs.{Messages.pim_reading, RegisterParts.registered_group, declared.view.PimView.PimView}}
 use Rattle.pim_model.{specs.State.State}
 use Rattle.law_settled.{proofs.ReadPackets.{packet_is, passed as read_passed}}

@@ -1,11 +1,11 @@
 -- A session's call, by what is said of its answer, its packets and its state.
-use Rattle.std.{proofs.Common.{◌≡◌, ◌∙◌, ℕ, List, Option, Some, None, Result, Ok, Err, refl, sym, ap, subst}, specs.Prelude.{IfOk, IfSome, OnOk}}
+use Rattle.std.{proofs.Common.{◌≡◌, ◌∙◌, ℕ, List, Option, Some, None, Result, Ok, refl, sym, ap, subst}, specs.Prelude.IfSome}
 use Rattle.pim_ip.{specs.declared.refusal.Refusal.Refusal}
 use Rattle.pim_types.{specs.declared.{event.Event.Event, outcome.{Emission.Emission, Verdict.Verdict}}}
 use Rattle.pim_model.{specs.{State.State, Step.step}}
 use Rattle.igmp_older_saved.{specs.{Reading.held_reading, Text.Held}, proofs.Spelled.held_text_is_read}
 use Rattle.law_states.{specs.History.{Given, IsLedTo}}
-use Rattle.pim_router.{specs.{Asked.{LeadsOn, SentIsAsked}, Standing.{Shown, Standing, beginning, begun, standing}}, proofs.Asked.{leads_now, step_asked, step_leads}}
+use Rattle.pim_router.{specs.{Asked.LeadsOn, Standing.{Shown, Standing, beginning, begun, standing}}, proofs.Asked.{leads_now, step_asked, step_leads}}
 use Rattle.pim_anycast.{specs.declared.set.RpSet.RpSet}
 use Rattle.pim_session.{specs.{Front.Front, Leaving.{GoesOnFrom, LeftIsAsked}, Session.ShownSession, Shared.{Reached, Saw, event_in, leaving, left_in, seen_in, seen_leaving}}}
 

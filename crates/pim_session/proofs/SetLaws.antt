@@ -1,9 +1,9 @@
 -- A session's machine with sets of RPs that share an address, and without.
-use Rattle.std.{proofs.{Common.{◌≡◌, ◌∙◌, ◌++◌, ap, refl, List, [], ◌∷◌, Option, Some, None}, lemmas.List.append-nil}}
+use Rattle.std.proofs.{Common.{◌≡◌, ap, refl, List, [], ◌∷◌, Option}, lemmas.List.append-nil}
 use Rattle.pim_types.{specs.declared.{event.{Event.Event, EventKind.EventKind}, outcome.{Emission.Emission, Outcome.Outcome}}}
-use Rattle.pim_model.{specs.{State.State, Step.{Answered, outcome_of, step}}}
+use Rattle.pim_model.specs.{State.State, Step.{Answered, step}}
 use Rattle.pim_anycast.{specs.{Joined.{event_given, joined, joined_step, outcome_with}, declared.set.RpSet.RpSet}, proofs.JoinedLaws.{kind_same, none_after, none_before}}
-use Rattle.pim_session.{specs.{Front.{Front, emissions_leaving, front_after, given}, Laws.{Fronted, Served, SharedSessionIsJoined, SharedSessionIsRun, WithoutSetsNothingChanges, events_given, front_run, front_step, outcomes_beside, run_served, served, session_run, session_step}, Shared.{front_behind, given_behind, left_behind}}}
+use Rattle.pim_session.specs.{Front.{Front, emissions_leaving, front_after, given}, Laws.{Fronted, Served, SharedSessionIsJoined, SharedSessionIsRun, WithoutSetsNothingChanges, events_given, front_run, front_step, outcomes_beside, served, session_run, session_step}, Shared.{front_behind, given_behind, left_behind}}
 
 -- ---- without sets
 

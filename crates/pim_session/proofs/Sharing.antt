@@ -1,13 +1,13 @@
 -- What a router makes of an event behind all that stands before it.
-use Rattle.std.{specs.{Option.option_map_or, Prelude.option_and_then}, proofs.{Common.{◌≡◌, ◌∙◌, ◌++◌, ◌&&◌, ◌||◌, ◌⊎◌, ◌/◌, inl, inr, ap, refl, sym, subst, ℕ, Bool, true, false, is_some, nat_lt, not, List, [], ◌∷◌, Option, Some, None, Result, Ok, Err, IfOk, IfSome, IsTrue, if◌then◌else◌, arith}, lemmas.{Bool.Decides.nat_tests, List.append-nil}}}
+use Rattle.std.{specs.{Option.option_map_or, Prelude.option_and_then}, proofs.{Common.{◌≡◌, ◌∙◌, ◌++◌, ◌&&◌, ◌||◌, ◌⊎◌, ◌/◌, inl, inr, ap, refl, sym, subst, ℕ, Bool, true, false, is_some, nat_lt, not, List, [], ◌∷◌, Option, Some, None, Result, Ok, Err, IfSome, IsTrue, if◌then◌else◌, arith}, lemmas.{Bool.Decides.nat_tests, List.append-nil}}}
 use Rattle.pim_ip.{specs.{Ipv4.{Packet, ipv4_reading, is_source_specific}, Prefixes.longest_match, declared.refusal.Refusal.Refusal}}
 use Rattle.pim_types.{specs.declared.{config.RpTable.RpTable, event.{Event.Event, EventKind.EventKind}, fact.Key.Key, outcome.{Emission.Emission, Verdict.Verdict}}}
-use Rattle.pim_model.{specs.{State.{State, is_own, is_own_among}, Step.{Answered, step}, Sure.needs_no_memory, Tables.is_empty_list, Unicast.{rp_among, rp_of, no_ranges}, Writing.unicast_time_to_live, Candidates.chosen_among}}
+use Rattle.pim_model.specs.{State.{State, is_own, is_own_among}, Step.step, Sure.needs_no_memory, Tables.is_empty_list, Unicast.{rp_among, rp_of, no_ranges}, Writing.unicast_time_to_live, Candidates.chosen_among}
 use Rattle.pim_wire.{specs.Registers.null_register_text}
 use Rattle.law_settled.{proofs.UnchangedLaws.{ignored_unchanged, refused_unchanged}}
 use Rattle.pim_router.{specs.{Standing.{Shown as RouterShown, Standing}, Stepped.Stepped}}
 use Rattle.pim_anycast.{specs.{Announced.{announced, announced_all, announced_due, announced_new, is_announced, is_due, is_local, local_keys, announcement_interval}, Joined.{event_given, kind_given, packet_announced, sent_after, sent_before}, Passed.{bytes_given, copies_of, passed}, Sets.{are_rp_sets, set_for, to_others}, declared.{front.Passed.Passed, set.RpSet.RpSet}}, proofs.{JoinedLaws.{kind_same, none_after, none_before}, Unset.none_new}}
-use Rattle.pim_session.{specs.{Behind.SteppedBehind, Front.{Front, emissions_leaving, given, is_sure}, Shared.{Beside, BringsFrame, Reached, Saw, front_behind, given_behind, is_advance, is_as_it_came, is_left_alone, is_sure_behind, is_unshared, left_behind, name_announced, unicast_event}}}
+use Rattle.pim_session.specs.{Behind.SteppedBehind, Front.{Front, emissions_leaving, given, is_sure}, Shared.{Beside, BringsFrame, Reached, Saw, front_behind, given_behind, is_advance, is_as_it_came, is_sure_behind, is_unshared, left_behind, name_announced, unicast_event}}
 
 -- ---- what the router is asked
 

@@ -1,5 +1,5 @@
 -- What a router and what stands before it make of an event.
-use Rattle.std.{specs.{Option.option_map_or, Prelude.option_and_then}, proofs.Common.{◌≡◌, ◌∙◌, ◌++◌, ◌&&◌, ◌+◌, ap, refl, sym, subst, ℕ, Bool, true, false, is_none, List, [], map, Option, Some, None, option_map, Result, Ok, Err, IfOk, IfSome, IsTrue, if◌then◌else◌}}
+use Rattle.std.{specs.{Option.option_map_or, Prelude.option_and_then}, proofs.Common.{◌≡◌, ◌∙◌, ◌&&◌, ◌+◌, ap, refl, sym, subst, ℕ, Bool, true, false, is_none, List, [], map, Option, Some, None, option_map, Result, Ok, Err, IfOk, IfSome, IsTrue, if◌then◌else◌}}
 use Rattle.pim_ip.{specs.declared.{fault.Fault.Fault, refusal.Refusal.Refusal}}
 use Rattle.pim_types.{specs.declared.{config.IfaceId.IfaceId, event.{Event.Event, EventKind.EventKind}, fact.Key.Key, outcome.{Emission.Emission, Verdict.Verdict}}}
 use Rattle.pim_model.{specs.{Querier.group_membership_interval, State.{State}, Step.{Answered, step}, Sure.needs_no_memory, Tables.{has_row, row_at}}}

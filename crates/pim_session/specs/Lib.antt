@@ -1,5 +1,6 @@
 pub mod Leaving
 pub mod Behind
+pub mod Candidacies
 pub mod Front
 pub mod Heard
 pub mod Laws

@@ -3,7 +3,7 @@
 use Rattle.std.{specs.Prelude.{Bool, Err, List, None, Ok, Option, Result, Some, false, if◌then◌else◌, min, option_and_then, true, ℕ, ◌&&◌, ◌++◌, ◌≡◌}}
 use Rattle.pim_ip.{specs.declared.refusal.Refusal.Refusal}
 use Rattle.pim_types.{specs.declared.{config.Config.Config, event.{Event.Event, EventKind.EventKind}, outcome.{Emission.Emission, Verdict.Verdict}}}
-use Rattle.pim_model.{specs.{State.{State, addressing_of}, Step.{Answered, step}, Timers.next_moment}}
+use Rattle.pim_model.specs.{State.{State, addressing_of}, Step.step, Timers.next_moment}
 use Rattle.pim_router.{specs.{Standing.{Shown as RouterShown}, Stepped.TookEvent}}
 use Rattle.pim_anycast.{specs.{Announced.{announced_new, is_announced, is_local, next_announcement}, Joined.{event_given, sent_after, sent_before}, Passed.passed, Sets.are_rp_sets, declared.{front.Passed.Passed, set.RpSet.RpSet}}}
 use Rattle.pim_session.{specs.{Behind.SteppedBehind, Front.{Front, emissions_leaving, front_after, given, is_sure}, Session.ShownSession, declared.refused.ReloadRefusal.ReloadRefusal}}

@@ -10,6 +10,7 @@ pub mod refused;
 mod saved;
 pub mod session;
 mod shared;
+mod sources;
 pub mod stop;
 
 pub use front::Front;

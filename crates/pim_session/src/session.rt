@@ -32,11 +32,13 @@ ghost use Rattle.std.specs.Option.{option_map_or};
 ghost use Rattle.std.specs.Prelude.{◌≡◌, ◌↔◌, [], Err, IfErr, IfOk, IfSome, IsSome, IsTrue, None, Ok, OnErr, OnOk, Some, drop, min, true};
 
 mod bootstraps;
+mod candidacies;
 mod guarded;
 mod placed;
 mod reloaded;
 mod saved;
 mod sets;
+mod sources;
 mod trees;
 
 use crate::front::Front;

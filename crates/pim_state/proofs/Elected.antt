@@ -1,5 +1,5 @@
 -- The set of the interfaces on which the router is the DR, after a change of the neighbours on one of them.
-use Rattle.std.{proofs.{Common.{◌≡◌, ℕ, Bool, true, false, cond, not, filter, List, [], ◌∷◌, nat_lt, ◌==◌, ◌&&◌, Option, None, refl, sym, ap, eqb-true, subst, ◌∙◌, arith}, lemmas.Bool.Decides.nat_tests}, specs.Prelude.if◌then◌else◌}
+use Rattle.std.{proofs.{Common.{◌≡◌, ℕ, Bool, true, false, cond, not, filter, [], ◌∷◌, nat_lt, ◌==◌, ◌&&◌, Option, None, refl, sym, ap, eqb-true, subst, ◌∙◌, arith}, lemmas.Bool.Decides.nat_tests}, specs.Prelude.if◌then◌else◌}
 use Rattle.pim_ifset.{specs.Members.{Members, has}}
 use Rattle.pim_types.{specs.{declared.{fact.{Key.Key, NeighbourRow.NeighbourRow}}, Keys.{iface_in, is_on, neighbour_key}}}
 use Rattle.pim_wire.{specs.declared.hello.Hello.Hello as HelloValue}

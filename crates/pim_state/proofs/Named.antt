@@ -1,5 +1,5 @@
 -- The sources that facts name, of whichever group.
-use Rattle.std.{proofs.{Common.{◌≡◌, ◌||◌, ℕ, Bool, true, false, List, [], ◌∷◌, ◌++◌, sym, ap, ◌∙◌, arith}, Math.Bool.or_assoc, lemmas.List.Folds.list_any-append}, specs.List.list_any}
+use Rattle.std.{proofs.{Common.{◌≡◌, ◌||◌, Bool, true, false, List, [], ◌∷◌, ◌++◌, sym, ap, ◌∙◌, arith}, Math.Bool.or_assoc, lemmas.List.Folds.list_any-append}, specs.List.list_any}
 use Rattle.pim_ip.{specs.{Prefixes.contains, declared.addr.{Addr.Addr, Prefix.Prefix}}}
 use Rattle.pim_types.{specs.declared.fact.Key.Key}
 use Rattle.pim_model.{specs.{State.State, Tables.{Table, keys_in}, Upstream.fact_keys}}

@@ -1,7 +1,7 @@
 -- A Hello that says nothing else of its neighbour than that it lasts changes of no interface whether the router is the
 -- DR there.
-use Rattle.std.{proofs.{Common.{◌≡◌, ◌==◌, ◌&&◌, ℕ, Bool, true, false, cond, map, not, List, [], ◌∷◌, Option, None, Some, is_some, nat_lt, refl, sym, ap, subst, arith, eqb-true, ◌∙◌}, lemmas.List.Folds.list_all-map}, specs.{BTreeMap.{insert_entry, is_at}, Cmp.{first_so, second_so}, List.{AllByRecursion, Sorted.IsStrictlySortedBy}, Map.lookup, Option.option_map_or, Ordering.{is_eq, match_ordering}, Prelude.if◌then◌else◌, declared.cmp.Ordering.{Ordering, TheVariants.{Less, Equal, Greater}}}}
-use Rattle.pim_ifset.{specs.Members.{Members, has}}
+use Rattle.std.{proofs.{Common.{◌≡◌, ◌==◌, ◌&&◌, ℕ, Bool, true, false, cond, map, not, List, [], ◌∷◌, Option, None, Some, is_some, nat_lt, refl, sym, ap, arith, eqb-true, ◌∙◌}, lemmas.List.Folds.list_all-map}, specs.{BTreeMap.{insert_entry, is_at}, Cmp.{first_so, second_so}, List.{AllByRecursion, Sorted.IsStrictlySortedBy}, Map.lookup, Option.option_map_or, Ordering.{is_eq, match_ordering}, declared.cmp.Ordering.{Ordering, TheVariants.{Less, Equal, Greater}}}}
+use Rattle.pim_ifset.specs.Members.{Members}
 use Rattle.pim_types.{specs.{declared.fact.{Key.Key, NeighbourRow.NeighbourRow}, Keys.{is_on, key_cmp, neighbour_key, same_key}}, proofs.Keys.key_cmp_total}
 use Rattle.pim_wire.{specs.declared.hello.Hello.Hello as HelloValue}
 use Rattle.pim_model.{specs.{Hellos.{hello_holdtime_of, is_generation_changed_among, neighbours_replaced}, Neighbours.{all_have_priority, is_better_dr, is_dr_among}, State.{Addressing, address_among, value_among}, Tables.{Table, has_row, keys_in, put, row_at, rows_on, same_option, set_row}}}

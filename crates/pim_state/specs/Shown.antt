@@ -1,5 +1,5 @@
 -- Sets of interfaces that show a test.
-use Rattle.std.{specs.Prelude.{List, nat_lt, ℕ, ◌&&◌, ◌≡◌}}
+use Rattle.std.specs.Prelude.{nat_lt, ℕ, ◌&&◌, ◌≡◌}
 use Rattle.pim_ifset.{specs.Members.{Members, has}}
 use Rattle.pim_types.{specs.declared.fact.NeighbourRow.NeighbourRow}
 use Rattle.pim_model.{specs.{Neighbours.is_dr_among, Sets.Set, State.{Addressing, address_among, value_among}, Tables.{Table, rows_on}}}

@@ -1,5 +1,5 @@
 -- How many rows are of an interface, and whether any is.
-use Rattle.std.{proofs.Common.{◌≡◌, ◌||◌, ◌≤◌, ℕ, Bool, true, false, cond, [], ◌∷◌, is_some, length, refl, arith}, specs.List.list_any}
+use Rattle.std.{proofs.Common.{◌≡◌, ◌||◌, ◌≤◌, ℕ, Bool, cond, [], ◌∷◌, is_some, length, refl, arith}, specs.List.list_any}
 use Rattle.pim_model.{specs.Tables.{Table, keys_in, rows_on}}
 use Rattle.pim_types.{specs.{declared.fact.Key.Key, Keys.is_on}}
 use Rattle.pim_tables.{specs.RowsOf.first_key}

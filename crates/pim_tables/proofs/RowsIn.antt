@@ -1,5 +1,5 @@
 -- Rows that stand in the values of another table, by that table.
-use Rattle.std.{proofs.Common.{◌≡◌, ◌||◌, Bool, true, false, cond, not, [], ◌∷◌, Option, Some, None, option_map, refl, sym, ap, subst, ◌∙◌}, specs.{List.{AllByRecursion, cons_option, list_any}, Option.option_and_then, declared.cmp.Ordering.TheVariants.Less}}
+use Rattle.std.{proofs.Common.{◌≡◌, ◌||◌, Bool, true, false, cond, not, [], ◌∷◌, Option, Some, None, option_map, refl, sym, ap, subst, ◌∙◌}, specs.{List.{cons_option, list_any}, Option.option_and_then, declared.cmp.Ordering.TheVariants.Less}}
 use Rattle.pim_types.{specs.{declared.fact.Key.Key, Keys.{key_cmp, same_key}}, proofs.Keys.equal_keys}
 use Rattle.pim_model.{specs.Tables.{Table, drop_at, drop_where, keys_in, put, row_at, set_row}}
 use Rattle.law_settled.{proofs.ListLaws.each_filter_map}

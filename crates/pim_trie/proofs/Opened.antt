@@ -1,6 +1,6 @@
 -- A node that a walk opened, with its key.
 use Rattle.std.{proofs.Common.{◌≡◌, ◌∙◌, ℕ, length, Option, Some, None, IfSome, option_map, ap, sym, subst}, specs.Option.option_to_list}
-use Rattle.slab.{specs.Slab.{Slab, get, ContainsKey}}
+use Rattle.slab.specs.Slab.{Slab, get}
 use Rattle.pim_trie.{specs.{declared.node.Node.Node, Meter.raised}, proofs.Walks.raised-none}
 use Rattle.std.{specs.Borrow.Bor}
 

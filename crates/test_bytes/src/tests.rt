@@ -2,6 +2,7 @@
 mod anycast;
 mod bootstraps;
 mod components;
+mod frr_bootstraps;
 mod known_packets;
 mod older_hosts;
 mod saved_states;

@@ -198,6 +198,7 @@ impl Daemon {
         }
         self.bsr_since = bsr.map(|bsr| (bsr, self.now()));
         match bsr {
+            Some(bsr) if self.is_own(bsr) => info!("the router is the BSR, as {bsr}"),
             Some(bsr) => info!("the BSR is {bsr}"),
             None => info!("no BSR is heard any more"),
         }
@@ -238,7 +239,7 @@ impl Daemon {
         given.map(|rp| (rp.range.prefix, rp.range.length)).collect::<BTreeSet<_>>().len()
     }
 
-    /// Time passes up to a moment, and on the way to the end of each RP that is learned.
+    /// Time passes up to a moment, and on the way to the end of each RP that is learned, and to each that is of a candidacy.
     pub(super) fn pass_to(&mut self, moment: u64) -> Result<(), Fatal> {
         let mut is_first = true;
         while let Some(end) = self.core.next_end().filter(|end| *end <= moment) {
@@ -253,8 +254,13 @@ impl Daemon {
             true => self.take(Event::Advance(moment))?,
             false => self.take_also(Event::Advance(moment))?,
         };
+        let was_bsr = self.was_bsr();
         let moved = self.core.pass(moment)?;
+        self.leave();
         self.see_elected();
+        if was_bsr && self.is_bsr() {
+            self.hold_again(moment)?;
+        }
         if moved {
             self.give_anew()?;
         }

@@ -142,8 +142,9 @@ impl Daemon {
         }
         let key = registered(&bytes);
         self.in_hand = key.map(|key| (key, None));
-        let answer = match stand_in::of_registered(&bytes) {
-            Some((itself, given)) => self.take_for(Event::Unicast(&given), Some(&itself)),
+        let stands = stand_in::of_registered(&bytes);
+        let answer = match &stands {
+            Some((itself, given)) => self.take_for(Event::Unicast(given), Some(itself)),
             None => self.take(Event::Unicast(&bytes)),
         };
         self.in_hand = None;
@@ -151,8 +152,11 @@ impl Daemon {
             Some(key) => self.unknown_of_may_differ(key.group),
             None => self.all_unknown_may_differ(),
         }
-        if let Answer::Refused(refusal) = answer? {
-            debug!("it is refused: {}", Error::Refused(refusal));
+        match answer? {
+            Answer::Done => self.watch_registered(stands.as_ref().map_or(&bytes, |(_, given)| given)),
+            Answer::Refused(refusal) => debug!("it is refused: {}", Error::Refused(refusal)),
+            Answer::NotForMe => self.hear_advertisement(&bytes)?,
+            _ => {}
         }
         Ok(())
     }

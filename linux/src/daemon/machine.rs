@@ -35,7 +35,7 @@ impl Daemon {
                 _ => {}
             }
         }
-        Ok(())
+        self.stand()
     }
 
     /// Gives an interface a virtual one, where it has none and is to have one.

@@ -642,7 +642,9 @@ fn the_unknown_are_asked_for_anew_where_their_group_moves() {
 }
 
 mod bootstraps;
+mod candidacy;
 mod liveness;
+mod msdp;
 mod older;
 mod overridden;
 mod reloaded;

@@ -82,6 +82,8 @@ struct Ready {
     is_woken: bool,
     /// A client came, or asks.
     is_asked: bool,
+    /// A peer of MSDP.
+    is_of_peers: bool,
 }
 
 /// Where clients ask.
@@ -215,6 +217,7 @@ impl Daemon {
         self.speak()?;
         self.choose()?;
         self.record();
+        self.set_msdp();
         self.place_all();
         // What was refused may be permitted now: the next packet asks.
         self.plane.unknown().into_iter().for_each(|key| self.withdraw(key));
@@ -266,6 +269,9 @@ impl Daemon {
                 servers.take_settings(&self.settings, self.now());
             }
             self.turn(&ready.sources)?;
+            if ready.is_of_peers {
+                self.msdp_turn()?;
+            }
             self.house_keeping()?;
             self.serve(&mut servers, ready.is_asked);
             self.keep();
@@ -289,6 +295,7 @@ impl Daemon {
 
     pub(super) fn begin(&mut self) -> Result<(), Fatal> {
         self.record();
+        self.set_msdp();
         self.settle_ports()?;
         if !self.ports.iter().any(|port| port.standing.is_up()) {
             warn!("no interface is up: the router waits for one");
@@ -303,7 +310,12 @@ impl Daemon {
         let own = self.kernel.waits();
         let others = [asked.wakes.as_raw_fd()].into_iter().chain(servers.each().flat_map(Server::waits));
         let all = own.iter().map(|(_, fd)| *fd).chain(others);
-        let mut waits: Vec<_> = all.map(|fd| PollFd::new(fd, PollFlags::POLLIN)).collect();
+        let peers = self.msdp.waits();
+        let of_peer = |(fd, writes): &(RawFd, bool)| {
+            PollFd::new(*fd, if *writes { PollFlags::POLLIN | PollFlags::POLLOUT } else { PollFlags::POLLIN })
+        };
+        let mut waits: Vec<_> = peers.iter().map(of_peer).collect();
+        waits.extend(all.map(|fd| PollFd::new(fd, PollFlags::POLLIN)));
         let due = &self.due;
         let times = [
             self.core.next_moment(),
@@ -322,6 +334,7 @@ impl Daemon {
             self.ports.iter().filter_map(|port| port.hello_due).min(),
             self.overrides.due(),
             self.sessions.values().map(Session::due).min(),
+            self.msdp.due(),
         ];
         let next = times.into_iter().flatten().fold(due.look, u64::min);
         match poll(&mut waits, next.saturating_sub(self.now()).min(LOOK_EVERY) as i32) {
@@ -330,6 +343,7 @@ impl Daemon {
             Ok(_) => {}
         }
         let is_ready = |wait: &PollFd| wait.revents().map_or(true, |found| !found.is_empty());
+        let (at_peers, waits) = waits.split_at(peers.len());
         let (at_kernel, others) = waits.split_at(own.len());
         let sources = own.iter().zip(at_kernel).filter(|(_, wait)| is_ready(wait)).map(|((source, _), _)| *source);
         let (wakes, clients) = others.split_at(1);
@@ -337,6 +351,7 @@ impl Daemon {
             sources: sources.collect(),
             is_woken: wakes.iter().any(is_ready),
             is_asked: clients.iter().any(is_ready),
+            is_of_peers: at_peers.iter().any(is_ready),
         })
     }
 
@@ -418,6 +433,7 @@ impl Daemon {
         self.repeat_hellos();
         self.override_again();
         self.keep_sessions()?;
+        self.keep_msdp()?;
         if self.neighbours.are_stale {
             self.watch_neighbours()?;
             self.watch_sessions();
@@ -445,8 +461,9 @@ impl Daemon {
         }
     }
 
-    /// Each neighbour is told at once that the router goes.
-    fn say_goodbye(&mut self) {
+    /// Each neighbour is told at once that the router goes, and the BSR that its RP does.
+    pub(super) fn say_goodbye(&mut self) {
+        self.leave_as_rp();
         let places: Vec<_> = self.sessions.keys().copied().collect();
         places.into_iter().for_each(|place| self.end_session(place));
         (0..self.ports.len() as u32).for_each(|number| self.say_goodbye_on(number));

@@ -21,13 +21,14 @@ pub(super) enum Kind {
     Entries,
     Taken,
     Sockets,
+    Msdp,
 }
 
 impl Kind {
     /// So many in a time: those of which each is about another router may be some.
     fn most(self) -> u32 {
         match self {
-            Kind::Neighbours | Kind::Sessions => 20,
+            Kind::Neighbours | Kind::Sessions | Kind::Msdp => 20,
             Kind::Designated | Kind::Forwarders => 5,
             Kind::OlderQueries | Kind::Entries | Kind::Taken | Kind::Sockets => 1,
         }
@@ -43,6 +44,7 @@ impl Kind {
             Kind::Entries => "entries that the kernel refuses",
             Kind::Taken => "entries that the kernel took",
             Kind::Sockets => "sockets that can't be read",
+            Kind::Msdp => "sessions of MSDP",
         }
     }
 }

@@ -81,11 +81,45 @@ impl Interface {
     }
 }
 
+/// Whose address a candidate has.
+#[derive(Clone, Debug, PartialEq, Eq, Serialize)]
+#[serde(tag = "kind", content = "of", rename_all = "snake_case")]
+pub enum Source {
+    Address(Ipv4Addr),
+    Interface(String),
+    Loopback,
+    Any,
+}
+
+/// A candidate BSR, or a candidate RP.
+#[derive(Clone, Debug, PartialEq, Eq, Serialize)]
+pub struct Candidate {
+    pub priority: Option<u32>,
+    /// Between advertisements of an RP, in seconds.
+    pub interval: Option<u32>,
+    pub source: Source,
+}
+
 /// Groups and the address of their RP.
 #[derive(Clone, Copy, Debug, Serialize)]
 pub struct Range {
     pub groups: Subnet,
     pub address: Ipv4Addr,
+}
+
+/// A peer of MSDP, with the router's own address of the session.
+#[derive(Clone, Copy, Debug, Serialize)]
+pub struct MsdpPeer {
+    pub peer: Ipv4Addr,
+    pub source: Ipv4Addr,
+}
+
+/// A mesh group of MSDP: the router's own address, and the other members.
+#[derive(Clone, Debug, Default, Serialize)]
+pub struct MeshGroup {
+    pub name: String,
+    pub source: Option<Ipv4Addr>,
+    pub members: Vec<Said<Ipv4Addr>>,
 }
 
 /// A static route.
@@ -110,10 +144,16 @@ pub struct Configuration {
     pub interfaces: Vec<Interface>,
     /// Range by range, also where a prefix list names them.
     pub rps: Vec<Said<Range>>,
+    pub candidate_bsr: Option<Said<Candidate>>,
+    pub candidate_rp: Option<Said<Candidate>>,
+    /// Of the candidate RP.
+    pub candidate_groups: Vec<Said<Subnet>>,
     /// The router never leaves the RP's tree.
     pub spt_never: Option<Place>,
     /// The prefix list of the sources whose Registers are taken.
     pub register: Option<Said<String>>,
+    pub msdp_peers: Vec<Said<MsdpPeer>>,
+    pub mesh_groups: Vec<MeshGroup>,
     pub prefix_lists: Vec<List>,
     pub static_routes: Vec<Said<Route>>,
     /// A route to everything counts as a route to an RP or a source.
@@ -127,6 +167,16 @@ pub struct Configuration {
 }
 
 impl Configuration {
+    /// The mesh group of a name, which is there from then on.
+    pub fn mesh_group(&mut self, name: &str) -> &mut MeshGroup {
+        let groups = &mut self.mesh_groups;
+        let at = groups.iter().position(|it| it.name == name).unwrap_or(groups.len());
+        if at == groups.len() {
+            groups.push(MeshGroup { name: name.to_string(), ..MeshGroup::default() });
+        }
+        &mut groups[at]
+    }
+
     pub fn leave(&mut self, place: &Place, reason: &str) {
         self.left.push(Left::new(place, reason, None));
     }

@@ -1,7 +1,7 @@
 //! A configuration read line by line.
-use super::configuration::{BfdTimes, Configuration, HelloTimes, Interface, Join, Place, Route, Said};
+use super::configuration::{BfdTimes, Configuration, HelloTimes, Interface, Join, MsdpPeer, Place, Route, Said};
 use super::lists::{subnet, Entry};
-use super::{reasons, Left};
+use super::{candidates, reasons, Left};
 use crate::settings::Subnet;
 use std::net::Ipv4Addr;
 
@@ -168,11 +168,13 @@ impl Reader {
                 self.rp(place, address, groups)
             }
             ["ip", "pim", "spt-switchover", "infinity-and-beyond"] => self.found.spt_never = Some(place.clone()),
+            ["ip", "pim", "bsr", rest @ ..] if candidates::taken(&mut self.found, place, rest) => {}
             ["ip", "pim", "ssm", "prefix-list", name] => self.ssm = named(name),
             ["ip", "pim", "register-accept-list", name] => self.found.register = named(name),
             ["ip", "nht", "resolve-via-default"] | ["frr", "defaults", "datacenter"] => {
                 self.found.uses_default_route = true
             }
+            ["ip", "msdp", rest @ ..] => self.msdp(place, rest),
             ["ip", "route", rest @ ..] => match route(rest) {
                 Some(value) => self.found.static_routes.push(Said { place: place.clone(), value }),
                 None => self.left_over(place, &place.text),
@@ -204,6 +206,27 @@ impl Reader {
         match (address.parse(), groups) {
             (Ok(address), Some(groups)) => self.rps.push((place.clone(), address, groups)),
             _ => self.found.leave(place, "an RP has an address, and a range of groups or a prefix list"),
+        }
+    }
+
+    /// What follows `ip msdp`.
+    fn msdp(&mut self, place: &Place, words: &[&str]) {
+        let address = |word: &str| word.parse::<Ipv4Addr>().ok();
+        let read = match words {
+            ["peer", peer, "source", source] => address(peer).zip(address(source)).map(|(peer, source)| {
+                let value = MsdpPeer { peer, source };
+                self.found.msdp_peers.push(Said { place: place.clone(), value });
+            }),
+            ["mesh-group", name, "source", source] => {
+                address(source).map(|source| self.found.mesh_group(name).source = Some(source))
+            }
+            ["mesh-group", name, "member", member] => address(member).map(|value| {
+                self.found.mesh_group(name).members.push(Said { place: place.clone(), value });
+            }),
+            _ => None,
+        };
+        if read.is_none() {
+            self.left_over(place, &format!("ip msdp {}", words.join(" ")));
         }
     }
 

@@ -195,6 +195,20 @@ fn a_configuration_of_frr_8_is_taken() {
 }
 
 #[test]
+fn peers_of_msdp_are_taken() {
+    let text =
+        "interface eth0\n ip pim\n!\nip msdp peer 10.0.0.2 source 10.0.0.1\nip msdp mesh-group a source 10.0.0.1\n\
+        ip msdp mesh-group a member 10.0.0.3\nip msdp mesh-group b member 10.0.0.4\nip msdp timers 60 75 30\n";
+    let (it, left) = taken(text, None);
+    let peers: Vec<_> = it.msdp.iter().map(|it| (it.peer.to_string(), it.mesh.clone())).collect();
+    assert_eq!(peers, [("10.0.0.2".to_string(), None), ("10.0.0.3".to_string(), Some("a".to_string()))]);
+    assert!(it.msdp.iter().all(|it| it.address == std::net::Ipv4Addr::new(10, 0, 0, 1)));
+    assert_eq!(left, ["ip msdp mesh-group b member 10.0.0.4", "ip msdp timers 60 75 30"]);
+    let (it, _) = taken(FRR_10, None);
+    assert_eq!(it.msdp.len(), 1);
+}
+
+#[test]
 fn a_configuration_of_frr_10_is_taken_by_its_vrf() {
     let (it, left) = taken(FRR_10, None);
     assert_eq!((it.interfaces.len(), &it.interfaces[0].name[..], it.domain), (1, "eth0", Domain::Usual));
@@ -207,7 +221,6 @@ fn a_configuration_of_frr_10_is_taken_by_its_vrf() {
         "ip pim hello 60",
         "rp keep-alive-timer 300",
         "ecmp",
-        "msdp peer 10.9.9.9 source 10.1.1.1",
         "rp 10.254.0.1",
         "ssm prefix-list all",
         "ip prefix-list routers seq 10 deny 10.1.0.0/24 le 32",
@@ -254,6 +267,52 @@ fn bootstraps_are_heard_as_by_frr() {
     assert_eq!(left, ["ip pim unicast-bsm"]);
     let line = json!({"line": 3, "text": "no ip pim bsm"});
     assert_eq!(told(&pim("eth0", no_bsm), None)["interfaces"][0]["no_bsm"], line);
+}
+
+/// As FRR 10.3 prints it.
+const CANDIDATES: &str = "interface eth0
+ ip address 10.1.0.1/24
+ ip pim
+exit
+interface lo
+ ip address 10.255.0.3/32
+ ip pim
+exit
+router pim
+ bsr candidate-rp interval 30
+ bsr candidate-rp group 239.0.0.0/8
+ bsr candidate-rp group 232.0.0.0/8
+ bsr candidate-rp group 225.0.0.0/8
+ bsr candidate-bsr priority 20 source address 10.1.0.1
+exit
+";
+
+#[test]
+fn candidates_are_taken_of_frr_10() {
+    let (it, left) = taken(CANDIDATES, None);
+    let (bsr, rp) = (it.candidacy.bsr.expect("a BSR"), it.candidacy.rp.expect("an RP"));
+    assert_eq!((bsr.address, bsr.priority, bsr.hash_length), ([10, 1, 0, 1].into(), 20, 30));
+    let ranges: Vec<_> = rp.ranges.iter().map(|range| (range.address, range.length)).collect();
+    assert_eq!((rp.address, rp.priority), ([10, 255, 0, 3].into(), 192));
+    assert_eq!(ranges, [([239, 0, 0, 0].into(), 8), ([225, 0, 0, 0].into(), 8)]);
+    assert_eq!(left, ["bsr candidate-rp interval 30", "bsr candidate-rp group 232.0.0.0/8"]);
+    let told = told(CANDIDATES, None);
+    let value = json!({"priority": 20, "interval": null, "source": {"kind": "address", "of": "10.1.0.1"}});
+    assert_eq!(told["candidate_bsr"]["value"], value);
+    assert_eq!(told["candidate_rp"]["value"]["source"], json!({"kind": "loopback"}));
+    assert!(Schema::read("import").fits(&told));
+    // Of an interface, and of all; without groups there is no RP, and without an address there is no candidate.
+    let of = |source: &str| {
+        let text = CANDIDATES.replace("priority 20 source address 10.1.0.1", source);
+        taken(&text, None).0.candidacy.bsr.map(|bsr| (bsr.address, bsr.priority))
+    };
+    assert_eq!(of("source interface eth0"), Some(([10, 1, 0, 1].into(), 64)));
+    assert_eq!((of("source any"), of("")), (Some(([10, 255, 0, 3].into(), 64)), Some(([10, 255, 0, 3].into(), 64))));
+    assert_eq!((of("source address 10.9.9.9"), of("source interface eth9")), (None, None));
+    let (it, left) = taken(&CANDIDATES.replace(" bsr candidate-rp group", "! "), None);
+    assert_eq!((it.candidacy.rp, left), (None, vec!["bsr candidate-rp interval 30".to_string()]));
+    let (it, left) = taken(&CANDIDATES.replace("interval 30", "period 30"), None);
+    assert_eq!((it.candidacy.rp, left.len()), (None, 4));
 }
 
 #[test]

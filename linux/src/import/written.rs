@@ -1,7 +1,7 @@
 //! The settings, written as TOML.
 use super::configuration::{Configuration, HelloTimes, Interface, Said};
 use super::lists::{groups_within, Entry};
-use super::Left;
+use super::{candidates, Left};
 use crate::settings::Subnet;
 use std::fmt::Write;
 
@@ -42,15 +42,19 @@ pub fn written(mut found: Configuration) -> (String, Vec<Left>) {
     }
     igmp(&mut found, &taken, &mut text);
     register(&mut found, &mut text);
-    if taken.iter().any(Interface::hears_bootstraps) {
+    let (candidate_bsr, candidate_rp) = candidates::written(&mut found, &taken);
+    let stands = candidate_bsr.is_some() || candidate_rp.is_some();
+    if stands || taken.iter().any(Interface::hears_bootstraps) {
         text.push_str("\n# As FRR does on each interface without `no ip pim bsm`.\n[bsr]\nlisten = true\n");
     }
+    [candidate_bsr, candidate_rp].iter().flatten().for_each(|lines| text.push_str(lines));
     text.push_str("\n[routes.preferences]\n");
     DISTANCES.iter().for_each(|(name, distance)| text.push_str(&format!("{name} = {distance}\n")));
     taken.iter().for_each(|it| interface(&mut found, it, &mut text));
     for Said { value, .. } in &found.rps {
         let _ = writeln!(text, "\n[[rp]]\ngroups = \"{}\"\naddress = \"{}\"", value.groups, value.address);
     }
+    msdp(&mut found, &mut text);
     (text, found.left)
 }
 
@@ -100,6 +104,24 @@ fn rule(key: &str, subnet: Option<Subnet>, permits: bool) -> String {
         "{}".to_string()
     } else {
         format!("{{ {} }}", parts.join(", "))
+    }
+}
+
+/// FRR refuses a peer that stands alone and in a mesh group.
+fn msdp(found: &mut Configuration, text: &mut String) {
+    for Said { value, .. } in &found.msdp_peers {
+        let _ = writeln!(text, "\n[[msdp]]\npeer = \"{}\"\naddress = \"{}\"", value.peer, value.source);
+    }
+    for group in std::mem::take(&mut found.mesh_groups) {
+        for member in &group.members {
+            match group.source {
+                Some(source) => {
+                    let _ = writeln!(text, "\n[[msdp]]\npeer = \"{}\"\naddress = \"{source}\"", member.value);
+                    let _ = writeln!(text, "mesh = {:?}", group.name);
+                }
+                None => found.leave(&member.place, &format!("the mesh group {} has no source", group.name)),
+            }
+        }
     }
 }
 

@@ -149,6 +149,49 @@ pub const BOOTSTRAP_CANDIDATES: Family = Family {
     kind: Kind::Gauge,
     help: "The number of learned RPs of which one is chosen for each group.",
 };
+pub const BSR_ELECTED: Family =
+    Family { name: "bsr_elected", kind: Kind::Gauge, help: "Whether the router is the elected bootstrap router." };
+pub const ADVERTISED_RPS: Family = Family {
+    name: "advertised_rps",
+    kind: Kind::Gauge,
+    help: "The number of RPs of ranges that advertised themselves to the router.",
+};
+pub const ADVERTISEMENTS_TAKEN_TOTAL: Family = Family {
+    name: "advertisements_taken_total",
+    kind: Kind::Counter,
+    help: "The number of advertisements of RPs that the router took.",
+};
+pub const ADVERTISEMENTS_LEFT_OUT_TOTAL: Family = Family {
+    name: "advertisements_left_out_total",
+    kind: Kind::Counter,
+    help: "The number of advertisements of RPs that the router didn't take.",
+};
+pub const ADVERTISEMENTS_LEFT_OUT_BY_REASON_TOTAL: Family = Family {
+    name: "advertisements_left_out_by_reason_total",
+    kind: Kind::Counter,
+    help: "Advertisements of RPs that the router didn't take, by reason.",
+};
+pub const MSDP_SESSION_UP: Family =
+    Family { name: "msdp_session_up", kind: Kind::Gauge, help: "Whether the MSDP session with a peer is up." };
+pub const MSDP_RESETS_TOTAL: Family =
+    Family { name: "msdp_resets_total", kind: Kind::Counter, help: "Sessions of MSDP that are over." };
+pub const MSDP_SOURCES: Family =
+    Family { name: "msdp_sources", kind: Kind::Gauge, help: "Sources that a peer of MSDP said last." };
+pub const MSDP_NOT_TAKEN_TOTAL: Family = Family {
+    name: "msdp_not_taken_total",
+    kind: Kind::Counter,
+    help: "Sources of a peer of MSDP that weren't taken, by reason.",
+};
+pub const MSDP_OWN_SOURCES: Family = Family {
+    name: "msdp_own_sources",
+    kind: Kind::Gauge,
+    help: "The number of sources of which the router tells its peers.",
+};
+pub const MSDP_STRANGERS_TOTAL: Family = Family {
+    name: "msdp_strangers_total",
+    kind: Kind::Counter,
+    help: "The number of connections to the port of MSDP of no peer that connects.",
+};
 pub const POLICY_REFUSED_TOTAL: Family = Family {
     name: "policy_refused_total",
     kind: Kind::Counter,

@@ -11,6 +11,8 @@ from viqeshor.lab.addresses import dotted
 MAGIC, VERSION, WITH_ADDRESSES, WITH_CANDIDATES = b"VQST", 2, 3, 4
 # In front of them, where groups of older hosts are saved too.
 HOSTS = b"VIQF"
+# In front of both in a file of pimlab, where the router has a listener for Bootstraps; and the bytes of that.
+KEPT, LISTENER, CHOICES = b"VIQL", b"VIQB", {1: "range", 2: "group"}
 
 
 class Unreadable(ValueError):
@@ -38,6 +40,21 @@ Table = list[tuple[Key, Row]]
 
 
 @dataclass
+class Listener:
+    """What a listener for Bootstraps knows."""
+    chooses_for: str
+    configured: list[Row]
+    limit: int
+    elected: Row | None
+    heard: bool
+    refresh_end: int
+    rps: list[Row]
+    parts: list[Row]
+    last: bytes
+    last_end: int
+
+
+@dataclass
 class Saved:
     settings: dict[str, int]
     addresses: list[str]
@@ -48,6 +65,7 @@ class Saved:
     ranges: list[tuple[str, int, str]]
     tables: dict[str, Table]
     hosts: Table
+    listener: Listener | None = None
 
 
 class Reader:
@@ -160,6 +178,37 @@ def opened(data: bytes) -> tuple[Table, bytes]:
         raise Unreadable(71, f"the groups of older hosts aren't read: {unreadable}") from None
 
 
+def listener_in(data: bytes) -> Listener:
+    """What bytes of a listener say; raises Unreadable where they say nothing."""
+    r = Reader(data)
+    if r.word() != int.from_bytes(LISTENER, "big"):
+        raise Unreadable(60, "the first four bytes of the listener aren't VIQB")
+    version = r.half()
+    if version not in CHOICES:
+        raise Unreadable(61, "another version of the listener")
+    if int.from_bytes(data[-4:], "big") != zlib.crc32(data[:-4]):
+        raise Unreadable(69, "the sum isn't that of the listener's bytes")
+    found = Listener(
+        CHOICES[version], r.list(lambda: r.in_turn(r.address, r.word, r.address)), r.time(),
+        r.option(lambda: r.in_turn(r.address, r.byte, r.time)), r.flag(), r.time(),
+        r.list(lambda: r.in_turn(r.address, r.word, r.byte, r.address, r.byte, r.time)),
+        r.list(lambda: r.in_turn(r.address, r.word, r.address, r.half, r.byte, r.address, r.half, r.time)),
+        bytes(r.list(r.byte)), r.time())
+    r.word()
+    if r.at != len(data):
+        raise Unreadable(65, "bytes follow the sum of the listener")
+    return found
+
+
+def behind_listener(data: bytes) -> tuple[Listener | None, bytes]:
+    """The listener that stands in front, and the bytes behind it."""
+    if data[:4] != KEPT:
+        return None, data
+    r = Reader(data[4:])
+    known = bytes(r.list(r.byte))
+    return listener_in(known), r.data[r.at:]
+
+
 def candidates_in(r: Reader) -> list[Any]:
     """The candidate RPs of version 4, of which there is one at least."""
     found = r.list(lambda: r.in_turn(r.address, r.word, r.address, r.word, r.word))
@@ -170,6 +219,7 @@ def candidates_in(r: Reader) -> list[Any]:
 
 def read(data: bytes) -> Saved:
     """The state that saved bytes say; raises Unreadable where they say none."""
+    listener, data = behind_listener(data)
     hosts, data = opened(data)
     r = Reader(data)
     if r.word() != int.from_bytes(MAGIC, "big"):
@@ -194,7 +244,7 @@ def read(data: bytes) -> Saved:
     r.word()
     if r.at != len(data):
         raise Unreadable(65, "bytes follow the sum")
-    return Saved(settings, addresses, candidates, interfaces, present, routes, ranges, tables, hosts)
+    return Saved(settings, addresses, candidates, interfaces, present, routes, ranges, tables, hosts, listener)
 
 
 def summed(front: bytes) -> bytes:
@@ -229,6 +279,20 @@ def lines(saved: Saved) -> Iterator[str]:
     yield from (" ".join(["candidate", *map(str, row)]) for row in saved.candidates)
     for name, rows in [*saved.tables.items(), ("older-hosts", saved.hosts)]:
         yield from (" ".join([name, *key_words(key), *map(shown, row)]) for key, row in rows)
+    if saved.listener:
+        yield from listener_lines(saved.listener)
+
+
+def listener_lines(listener: Listener) -> Iterator[str]:
+    """The same of what a listener knows."""
+    yield f"listener {listener.chooses_for} {listener.limit}"
+    yield from (" ".join(["listener-range", *map(str, row)]) for row in listener.configured)
+    if listener.elected:
+        yield " ".join(["listener-elected", *map(str, listener.elected)])
+    yield f"listener-heard {int(listener.heard)} {listener.refresh_end}"
+    yield from (" ".join(["listener-rp", *map(str, row)]) for row in listener.rps)
+    yield from (" ".join(["listener-part", *map(str, row)]) for row in listener.parts)
+    yield f"listener-last {listener.last.hex() or '-'} {listener.last_end}"
 
 
 # ---- as the printed tables

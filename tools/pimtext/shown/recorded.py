@@ -100,6 +100,15 @@ def row_words(router: Router, row: printed.Row) -> str:
         case printed.LearnedRp():
             told = {"given": "learned", "kept": "learned, and another wins", "waits": "said in a fragment"}[row.state]
             return f"RP of {row.groups} {told}: {row.rp}"
+        case printed.StandingBsr():
+            told = {"candidate": "yields to another BSR", "pending": "may become the BSR", "elected": "is the BSR"}
+            return told[row.state]
+        case printed.HeldRp():
+            return f"holds the RP of {row.groups}: {row.rp}"
+        case printed.GoneRange():
+            return f"says {row.groups} without RPs"
+        case printed.ToldBsr():
+            return f"as an RP tells {row.bsr}"
 
 
 # ---- shapes

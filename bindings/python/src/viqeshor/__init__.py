@@ -16,8 +16,8 @@ A packet that is to be sent is kept until `packets` or `run_to` returns it, what
 
 A moment is a timestamp, in milliseconds from any beginning, at most 2**62. The shared library is the one that `library`
 names, or VIQESHOR_LIBRARY in the environment, or the one in the package's folder, or the one that the system loads as
-`libviqeshor.so.0.9`. `viqeshor.hosts` writes packets of hosts, `viqeshor.bsr` learns RPs of Bootstraps, and
-`viqeshor.lab` plays whole networks.
+`libviqeshor.so.0.9`. `viqeshor.hosts` writes packets of hosts, `viqeshor.bsr` learns RPs of Bootstraps,
+`viqeshor.candidacy` stands as BSR and as RP, and `viqeshor.lab` plays whole networks.
 """
 import ctypes
 import enum
@@ -98,7 +98,7 @@ Buffer: TypeAlias = bytes | bytearray | memoryview
 Interface: TypeAlias = str | IPv4Interface | tuple[Any, ...]
 
 # What this package and the library have to agree on: VIQ_ABI of viqeshor.h.
-ABI = 12
+ABI = 13
 NEVER, NO_INTERFACE, NO_PLACE, MOST_BYTES = 2**64 - 1, 2**32 - 1, 2**32 - 1, 1528
 # The letters of the tables.
 TABLES = "NGSDAURF"
@@ -150,6 +150,7 @@ class Answer(enum.IntEnum):
     NO_SETTING = 54
     UNTAKEN = 55
     NO_LISTENER = 56
+    NO_CANDIDACY = 57
     NOT_OURS = 60
     OTHER_VERSION = 61
     CUT_SHORT = 62
@@ -177,6 +178,7 @@ class Answer(enum.IntEnum):
     LATE_REFRESH = 112
     NOT_FROM_RPF = 113
     NOT_PREFERRED = 114
+    NOT_ELECTED = 115
 
     @classmethod
     def _missing_(cls, value: object) -> Self | None:
@@ -232,6 +234,7 @@ RAISED: dict[Answer, type[Error]] = {
     Answer.FAILED: Lost,
     Answer.NO_ROUTER: Closed,
     Answer.NO_LISTENER: Closed,
+    Answer.NO_CANDIDACY: Closed,
     Answer.OTHER_ABI: OtherVersion,
 }
 
@@ -310,6 +313,10 @@ class GivenCall(Structure):
 
 class CName(Structure):
     _fields_ = numbers("source", "group")
+
+
+class CSourceActive(Structure):
+    _fields_ = [*numbers("peer", "rp", "source", "group"), ("packet", c_char_p), ("length", c_size_t)]
 
 
 class RefusedAt(Structure):
@@ -435,6 +442,10 @@ CALLS: dict[str, tuple[list[Any], Any]] = {
     "may_differ": (SOURCE, c_bool),
     "seen": ([c_uint32, *SOURCE, Draw], c_uint32),
     "keep": ([*SOURCE, c_uint64], c_uint32),
+    "source_active": ([POINTER(CSourceActive), Draw], c_uint32),
+    "source_active_packet": ([POINTER(CSourceActive), POINTER(c_uint8), c_size_t, POINTER(c_size_t)], c_uint32),
+    "registered": ([c_char_p, c_size_t, POINTER(CName)], c_bool),
+    "own_source": (SOURCE, c_bool),
     "sum": ([], c_uint32),
     "probes": ([], c_uint64),
     "touched": ([], c_uint64),
@@ -960,6 +971,40 @@ class Router:
         with self.lock:
             self._must(self._recorded("anycast", 0, rp_sets_of(told)))
             self.rp_sets = told
+
+    # ---- sources of other RPs (MSDP, RFC 3618)
+
+    def source_active_packet(self, peer: str, rp: str, source: str, group: str, packet: Buffer = b"") -> bytes | None:
+        """The packet in which the router is to be given a Source-Active message (SA) of a peer, by `unicast`, as if a
+        DR had sent it: of a source to a group of which `rp`, an address of the router, is the RP, with the packet that
+        it encapsulates, if it has one. None of a source on a link of the router's, where it hears the source itself.
+        Of what the router sends then a Register-Stop to the peer isn't to be sent: the peer registers nothing."""
+        data, size, room = bytes_of(packet), c_size_t(), (c_uint8 * MOST_BYTES)()
+        addresses = (address(at) for at in (peer, rp, source, group))
+        told = CSourceActive(*addresses, data, len(data))
+        with self.lock:
+            self._must(self._call("source_active_packet", byref(told), room, MOST_BYTES, byref(size)))
+        return bytes(room[: size.value]) if size.value else None
+
+    def source_active(self, peer: str, rp: str, source: str, group: str, packet: Buffer = b"",
+                      draw: int | None = None) -> Answer:
+        """An SA as an event: `unicast` of `source_active_packet`; NOT_FOR_ME, where nothing has changed, where that is
+        None."""
+        given = self.source_active_packet(peer, rp, source, group, packet)
+        return Answer.NOT_FOR_ME if given is None else self.unicast(given, draw)
+
+    def registered(self, packet: Buffer) -> tuple[str, str] | None:
+        """The source that a packet of `unicast` registers, with its group, if it is a DR's Register to the RP of that,
+        an address of the router. An RP tells its peers of the source for as long as Registers come, at least one every
+        90 s."""
+        data, told = bytes_of(packet), CName()
+        is_there = self._call("registered", data, len(data), byref(told))
+        return (dotted(told.source), dotted(told.group)) if is_there else None
+
+    def is_own_source(self, source: str, group: str) -> bool:
+        """Whether a source is on a link of which the router is the DR, sends, and has the router as the RP of its
+        group: an RP tells its peers of it. The table F lists the sources with a fact."""
+        return bool(self._call("own_source", address(source), address(group)))
 
     # ---- older versions of IGMP
 

@@ -1,47 +1,31 @@
 //! A packet that came on a link.
-ghost use Rattle.std.specs.Prelude.{◌≡◌, ◌++◌, ◌+◌, ◌^◌, ◌<◌, false, filter, length, map, nat_le, IfOk, IsOk, Ok, OnErr, OnOk};
+ghost use Rattle.std.specs.Prelude.{◌≡◌, ◌++◌, ◌+◌, ◌^◌, ◌<◌, ◌≤◌, false, filter, length, map, nat_le, IfOk, IsOk, Ok, OnErr, OnOk};
 ghost use Rattle.pim_model.specs.Tables.{below};
 ghost use Rattle.pim_bootstrap.specs.Bootstraps.{bootstrap_reading};
-ghost use Rattle.pim_bsr.specs.Hearing.{after_message, heard, heard_frame, is_bootstrap, is_hop, is_repeated, is_scoped, is_sent_on, may_refresh, passed_on, sent_on, taken, takes_memory, why_sender};
+ghost use Rattle.pim_bsr.specs.Hearing.{after_message, heard, heard_frame, is_hop, is_repeated, is_scoped, is_sent_on, may_refresh, passed_on, sent_on, taken, takes_memory, why_checked, why_sender, why_weight};
 ghost use Rattle.pim_bsr.specs.Sound.{IsSound, IsSoundTable};
 ghost use Rattle.pim_bsr.specs.Table.{is_preferred, kept_count, may_elect, room, with_message};
 
 use super::{Listener, room_beside};
+use crate::arrived::is_bootstrap;
 use crate::given::moves;
 use crate::heard::{Heard, Why};
 use crate::learned::Elected;
 use crate::surroundings::Surroundings;
 use crate::table::{Arrival, BS_TIMEOUT, Table};
 use pim_bootstrap::{BootstrapView, Ranges, read_bootstrap};
-use pim_ip::{Addr, Ipv4View, PROTOCOL_PIM, read_ipv4, write_pim_packet};
+use pim_ip::{Addr, read_ipv4, write_pim_packet};
 use pim_types::{Emission, Hop, IfaceId, Series};
 use std::alloc::{AllocError, Global};
-
-/// The type of a Bootstrap.
-const BOOTSTRAP: u8 = 4;
-
-/// The length of PIM's header.
-const HEADER_LENGTH: usize = 4;
 
 /// How long the same bytes are a repetition, in ms.
 const REPEAT_TIME: u64 = 1000;
 
 /// Where a message came: the interface and the sender.
 #[derive(Clone, Copy)]
-struct Origin {
-    iface: IfaceId,
-    source: Addr,
-}
-
-/// Whether a packet is PIM of the type of a Bootstrap, to all PIM routers.
-fn is_bootstrap(packet: &Ipv4View<'_>) -> bool
-    ensures { result ≡ is_bootstrap packet.now }
-{
-    if packet.protocol() != PROTOCOL_PIM || packet.destination() != Addr::ALL_PIM_ROUTERS {
-        return false;
-    }
-    let message = packet.payload();
-    message.len() >= HEADER_LENGTH && message[0] & 0x0F == BOOTSTRAP
+pub(super) struct Origin {
+    pub(super) iface: IfaceId,
+    pub(super) source: Addr,
 }
 
 /// Whether a message came from the neighbour, over the interface.
@@ -89,7 +73,7 @@ fn may_elect(elected: Option<Elected>, message: &BootstrapView<'_>) -> bool
 }
 
 /// A message as it came, from the router's address on an interface.
-fn passed_on<S: Surroundings>(
+pub(super) fn passed_on<S: Surroundings>(
     alloc: Global,
     around: &S,
     bytes: &[u8],
@@ -189,19 +173,20 @@ impl Listener {
         Ok(Heard::Ignored(Why::NoRoom))
     }
 
-    // The table after a message.
+    // The table after a message that came at a timestamp in ms.
     #[tactic(auto, unfolding(crate::specs::Table::with_message))]
-    fn table_after<S: Surroundings>(
+    pub(super) fn table_at(
         &self,
         alloc: Global,
-        around: &S,
+        moment: u64,
         message: &BootstrapView<'_>,
     ) -> Result<Table, AllocError>
-        ensures { IfOk result (λ table. table ≡ with_message (S.around around.now).present self.now.table message.now) }
+        requires { moment ≤ 2 ^ 62 }
+        ensures { IfOk result (λ table. table ≡ with_message moment self.now.table message.now) }
     {
         let mut table = self.table.copy(alloc)?;
         let arrival = Arrival {
-            moment: around.present_moment(),
+            moment,
             bsr: message.bsr(),
             tag: message.tag(),
             hash_length: message.hash_length(),
@@ -211,8 +196,20 @@ impl Listener {
         Ok(table)
     }
 
+    // The table after a message.
+    pub(super) fn table_after<S: Surroundings>(
+        &self,
+        alloc: Global,
+        around: &S,
+        message: &BootstrapView<'_>,
+    ) -> Result<Table, AllocError>
+        ensures { IfOk result (λ table. table ≡ with_message (S.around around.now).present self.now.table message.now) }
+    {
+        self.table_at(alloc, around.present_moment(), message)
+    }
+
     // Whether there is room for what a table keeps.
-    fn has_room(&self, table: &Table) -> bool
+    pub(super) fn has_room(&self, table: &Table) -> bool
         ensures room { result ≡ nat_le (kept_count table.now) (room self.now) }
         ensures sound { IsSound self.now }
     {
@@ -221,7 +218,7 @@ impl Listener {
 
     // Takes a message that counts, with the table after it.
     #[tactic(auto, unfolding(crate::specs::Hearing::after_message))]
-    fn accept<S: Surroundings>(
+    pub(super) fn accept<S: Surroundings>(
         &mut self,
         around: &S,
         iface: IfaceId,
@@ -264,16 +261,17 @@ impl Listener {
         Ok(Heard::Taken(moved))
     }
 
-    // Why a message isn't acceptable by its sender and its BSR.
-    #[tactic(auto, unfolding(crate::specs::Hearing::why_sender))]
-    fn why_sender<S: Surroundings>(
+    // Why a message isn't acceptable by its sender, else as a later test says.
+    #[tactic(auto, unfolding(crate::specs::Hearing::why_checked))]
+    pub(super) fn why_checked<S: Surroundings>(
         &self,
         around: &S,
         origin: Origin,
         message: &BootstrapView<'_>,
+        later: Option<Why>,
     ) -> Option<Why>
         ensures { result
-            ≡ why_sender (S.around around.now) self.now origin.iface.number origin.source.bits message.now }
+            ≡ why_checked (S.around around.now) self.now origin.iface.number origin.source.bits message.now later }
     {
         let bsr = message.bsr();
         let no_forward = message.is_no_forward();
@@ -292,10 +290,32 @@ impl Listener {
         if !no_forward && !is_hop(around.rpf_neighbour(bsr), origin) {
             return Some(Why::NotFromRpf);
         }
-        if !may_elect(self.elected, message) {
-            return Some(Why::NotPreferred);
+        later
+    }
+
+    // Why a message isn't acceptable by its BSR.
+    fn why_weight(&self, message: &BootstrapView<'_>) -> Option<Why>
+        ensures { result ≡ why_weight self.now message.now }
+    {
+        if may_elect(self.elected, message) {
+            None
+        } else {
+            Some(Why::NotPreferred)
         }
-        None
+    }
+
+    // Why a message isn't acceptable by its sender and its BSR.
+    #[tactic(auto, unfolding(crate::specs::Hearing::why_sender))]
+    fn why_sender<S: Surroundings>(
+        &self,
+        around: &S,
+        origin: Origin,
+        message: &BootstrapView<'_>,
+    ) -> Option<Why>
+        ensures { result
+            ≡ why_sender (S.around around.now) self.now origin.iface.number origin.source.bits message.now }
+    {
+        self.why_checked(around, origin, message, self.why_weight(message))
     }
 
     // Whether a message with the No-Forward bit may count.
@@ -351,7 +371,7 @@ impl Listener {
 
     // Sends a message on, if it may be.
     #[tactic(auto, unfolding(crate::specs::Hearing::sent_on))]
-    fn pass_on<S: Surroundings>(
+    pub(super) fn pass_on<S: Surroundings>(
         &self,
         alloc: Global,
         around: &S,

@@ -3,8 +3,8 @@ ghost use Rattle.std.specs.Prelude.{◌≡◌, is_ok, map, option_map};
 ghost use Rattle.std.specs.Result.{result_ok};
 ghost use Rattle.toml.specs.Data.{as_bool, as_str, as_table, get_member};
 ghost use Rattle.toml.specs.View.{view, table_view};
-ghost use Rattle.pim_scenario.specs.Fields.{flag_or, number_in, number_at, number_or, moment_of, moment_at, list_of, list_at};
-ghost use Rattle.pim_scenario.specs.Fields.{list_or_empty, text_at, table_at, optional_text, has_only, is_known};
+ghost use Rattle.pim_scenario.specs.Fields.{flag_or, number_in, number_at, number_between, number_or, moment_of, moment_at, list_of, list_at};
+ghost use Rattle.pim_scenario.specs.Fields.{list_or_empty, text_at, table_at, optional_table, optional_text, has_only, is_known};
 
 use super::Wrong;
 use toml::{Table, Value};
@@ -103,6 +103,17 @@ pub(super) fn table<'a>(table: &'a Table, key: &str) -> Result<&'a Table, Wrong>
     table_of(value_at(table, key).ok_or(Wrong)?)
 }
 
+/// The table at a key, if the key is there.
+pub(super) fn optional_table<'a>(table: &'a Table, key: &str) -> Result<Option<&'a Table>, Wrong>
+    ensures { option_map (option_map (λ t. table_view t.now)) (result_ok result)
+        ≡ optional_table key.now (table_view table.now) }
+{
+    match value_at(table, key) {
+        Some(value) => Ok(Some(table_of(value)?)),
+        None => Ok(None),
+    }
+}
+
 /// The number at a key.
 pub(super) fn number(table: &Table, key: &str) -> Result<u32, Wrong>
     ensures { result_ok result ≡ number_at key.now (table_view table.now) }
@@ -118,6 +129,23 @@ pub(super) fn number_or(table: &Table, key: &str, default: u32) -> Result<u32, W
         Some(value) => number_in(value),
         None => Ok(default),
     }
+}
+
+/// The number at a key, or `default` where the key is not there, if it lies between two others.
+pub(super) fn number_between(
+    table: &Table,
+    key: &str,
+    least: u8,
+    most: u8,
+    default: u8,
+) -> Result<u8, Wrong>
+    ensures { result_ok result ≡ number_between least most default key.now (table_view table.now) }
+{
+    let number = number_or(table, key, u32::from(default))?;
+    if number < u32::from(least) || number > u32::from(most) {
+        return Err(Wrong);
+    }
+    u8::try_from(number).map_err(|_| Wrong)
 }
 
 /// The flag that a value is.

@@ -5,7 +5,7 @@ ghost use Rattle.toml.specs.View.{view, table_view};
 ghost use Rattle.pim_scenario.specs.Scenario.{IsConfigText, IsTable, NamesLink};
 ghost use Rattle.pim_scenario.specs.Texts.{ReadsExactly};
 
-use super::{ConfigText, Unread, field, router, sets};
+use super::{ConfigText, Unread, field, router, sets, standing};
 use pim_types::Series;
 use std::alloc::Global;
 use toml::{Table, Value};
@@ -30,6 +30,9 @@ pub(super) fn config_text_in(alloc: Global, table: &Table) -> Result<ConfigText,
             "anycast",
             "bsr",
             "rp_limit",
+            "choice",
+            "candidate_bsr",
+            "candidate_rp",
             "addresses",
             "routes",
             "rps",
@@ -44,6 +47,7 @@ pub(super) fn config_text_in(alloc: Global, table: &Table) -> Result<ConfigText,
         links,
         front: router::front_in(table)?,
         sets: sets::sets_in(alloc, field::list_or_empty(table, "anycast")?)?,
+        standing: standing::standing_in(alloc, table)?,
     })
 }
 

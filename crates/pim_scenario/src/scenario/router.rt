@@ -4,14 +4,17 @@ ghost use Rattle.std.specs.List.{AllZip};
 ghost use Rattle.std.specs.Result.{result_ok};
 ghost use Rattle.toml.specs.View.{view, table_view};
 ghost use Rattle.pim_scenario.specs.Scenario.{IsConfig, IsInterface, IsLink, IsRouter, IsTable};
-ghost use Rattle.pim_scenario.specs.Scenario.{names_after, bsr_at, front_at, guard_at, older_hosts_at, place_of, query_version_at, rp_limit_at, spt_switch_at, IsNumbered};
+ghost use Rattle.pim_scenario.specs.Scenario.{names_after, bsr_at, choice_at, front_at, guard_at, older_hosts_at, place_of, query_version_at, rp_limit_at, spt_switch_at, IsNumbered};
 ghost use Rattle.pim_scenario.specs.Scenario.{HasNumbered, AreRouters};
 ghost use Rattle.pim_scenario.specs.Texts.{ReadsExactly};
 ghost use Rattle.pim_scenario.specs.Links.{names_in};
 
 use super::links::LinkNames;
-use super::{FrontText, Link, RouterText, Scenario, Unread, Wrong, address, field, routes, sets};
+use super::{
+    FrontText, Link, RouterText, Scenario, Unread, Wrong, address, field, routes, sets, standing,
+};
 use igmp_older::{OlderHosts, QueryVersion};
+use pim_bsr::Choice;
 use pim_types::{Config, InterfaceConfig, Series, SptSwitch};
 use std::alloc::Global;
 use toml::{Table, Value};
@@ -71,6 +74,9 @@ fn router_in<'a>(
             "anycast",
             "bsr",
             "rp_limit",
+            "choice",
+            "candidate_bsr",
+            "candidate_rp",
             "addresses",
             "routes",
             "rps",
@@ -87,6 +93,7 @@ fn router_in<'a>(
         links,
         front: front_in(table)?,
         sets: sets::sets_in(alloc, field::list_or_empty(table, "anycast")?)?,
+        standing: standing::standing_in(alloc, table)?,
     })
 }
 
@@ -170,6 +177,7 @@ pub(super) fn front_in(table: &Table) -> Result<FrontText, Wrong>
         guard: guard_in(table)?,
         bsr: bsr_in(table)?,
         rp_limit: rp_limit_in(table)?,
+        choice: choice_in(table)?,
     })
 }
 
@@ -204,7 +212,8 @@ fn guard_in(table: &Table) -> Result<bool, Wrong>
     }
 }
 
-fn bsr_in(table: &Table) -> Result<bool, Wrong>
+/// Whether a table has its router hear Bootstraps.
+pub(super) fn bsr_in(table: &Table) -> Result<bool, Wrong>
     ensures { result_ok result ≡ bsr_at (table_view table.now) }
 {
     field::flag_or(table, "bsr", false)
@@ -216,6 +225,16 @@ fn rp_limit_in(table: &Table) -> Result<u32, Wrong>
     match field::number_or(table, "rp_limit", FrontText::MOST_RPS)? {
         limit @ 1..=FrontText::MOST_RPS => Ok(limit),
         _ => Err(Wrong),
+    }
+}
+
+fn choice_in(table: &Table) -> Result<Choice, Wrong>
+    ensures { result_ok result ≡ choice_at (table_view table.now) }
+{
+    match field::optional_text(table, "choice")? {
+        None | Some("range") => Ok(Choice::Range),
+        Some("group") => Ok(Choice::Group),
+        Some(_) => Err(Wrong),
     }
 }
 

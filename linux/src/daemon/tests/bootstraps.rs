@@ -80,22 +80,22 @@ fn of_range() -> [Option<Ipv4Addr>; 3] {
     [Some(SEVERAL[0].into()); 3]
 }
 
-fn takes(daemon: &mut Daemon, text: &str) {
+pub fn takes(daemon: &mut Daemon, text: &str) {
     daemon.take_settings(settings::read(text).expect("they are in order")).expect("it goes on");
 }
 
-fn rp(daemon: &Daemon, group: [u8; 4]) -> Option<Ipv4Addr> {
+pub fn rp(daemon: &Daemon, group: [u8; 4]) -> Option<Ipv4Addr> {
     show::rp_of(daemon, Ipv4Addr::from(group).into())
 }
 
 /// On which interfaces Bootstraps left since it was asked last.
-fn sent_on(fake: &Fake) -> Vec<u32> {
+pub(super) fn sent_on(fake: &Fake) -> Vec<u32> {
     let sent = fake.sent.take();
     let is_bootstrap = |bytes: &[u8]| Packet::read(bytes).map_or(false, |it| is_pim(it, BOOTSTRAP));
     sent.iter().filter(|(_, bytes)| is_bootstrap(bytes)).map(|(index, _)| *index).collect()
 }
 
-fn shown(daemon: &mut Daemon, topic: &str) -> Value {
+pub fn shown(daemon: &mut Daemon, topic: &str) -> Value {
     let mut told = Vec::new();
     show::answer(daemon, &format!("show {topic} json"), &mut told).expect("it is told");
     let told: Value = serde_json::from_slice(&told).expect("JSON");

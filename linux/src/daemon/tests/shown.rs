@@ -46,7 +46,8 @@ fn hello_of(from: [u8; 4]) -> (Source, kernel::Event) {
 
 /// A router with something in each of its tables.
 fn busy() -> (Daemon, Rc<Fake>) {
-    let (mut daemon, fake) = begun(&listening(), &both());
+    let peer = "[[msdp]]\npeer = \"10.9.0.9\"\naddress = \"10.1.0.1\"\n";
+    let (mut daemon, fake) = begun(&format!("{}{peer}", listening()), &both());
     let (own, far) = (Ipv4Addr::new(239, 1, 1, 1), Ipv4Addr::new(239, 2, 1, 1));
     for event in [
         hello_of([10, 1, 0, 3]),

@@ -52,6 +52,7 @@ IGNORED = {
     "LateRefresh": 112,
     "NotFromRpf": 113,
     "NotPreferred": 114,
+    "NotElected": 115,
 }
 # The numbers of the refusals of saved bytes, and of states that no router goes on from.
 REFUSED_BYTES = (60, 61, 62, 63, 64, 65, 69)
@@ -97,6 +98,7 @@ MEANINGS = {
                   "route",
     "NotPreferred": "a Bootstrap of another BSR than the elected one, with a lower priority, or with the same and a "
                     "lower address",
+    "NotElected": "a Candidate-RP-Advertisement to a candidate BSR that isn't elected: who is the BSR?",
 }
 # ---- rows
 # The rows of the definitions: the first number of each, and its columns, each a kind with its words.

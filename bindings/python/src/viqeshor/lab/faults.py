@@ -21,8 +21,12 @@ MOST_CANDIDATES = 256
 
 CONFIG_KEYS = [
     "iface", "limit", "spt", "rv", "qi", "qri", "lmqi", "older_hosts", "query_version", "guard", "anycast", "bsr",
-    "rp_limit", "addresses", "routes", "rps",
+    "rp_limit", "choice", "candidate_bsr", "candidate_rp", "addresses", "routes", "rps",
 ]
+BSR_KEYS = ["address", "priority", "hash_length", "limit"]
+RP_KEYS = ["address", "priority", "ranges"]
+# So many ranges are said in a packet of 1,500 bytes.
+MOST_RANGES = 183
 ROUTER_KEYS = ["name", *CONFIG_KEYS]
 IFACE_KEYS = ["link", "address", "priority", "propagation", "override"]
 MOVE_KEYS = {
@@ -61,6 +65,7 @@ FORMS = {
     "config": "a table with the keys of a router but its name",
     "list of places": f"a list with an item for each interface that the router has, each {PLACE_FORM}",
     "list of addresses": f"a list of the router's own addresses of no interface, each {ADDRESS_FORM}",
+    "list of ranges": 'a list of texts, each a range of groups, as ranges = ["239.0.0.0/8"]',
     "list of anycast": f"a list of sets of RPs that share an address, each {SET_FORM}",
     "list of routes": f"a list of routes, each {ROUTE_FORM}",
     "list of rps": f"a list of RP ranges, each {RP_FORM}",
@@ -163,6 +168,21 @@ def why_no_prefix(text: str) -> str:
     if address_in(head) is None:
         return f"`{head}` is no address: {why_no_address(head)}"
     return f"`{tail}` is no length" if slash else "the length of the subnet is missing, as /24"
+
+
+def texts_in(value: toml_lines.Value | None) -> list[str]:
+    """The texts of a list, if there is one."""
+    held = value.held if value is not None and value.kind == "list" else []
+    return [inner.held for inner in held if inner.kind == "text"]
+
+
+def addresses_of(table: toml_lines.Value) -> list[str]:
+    """The addresses of a router's interfaces, and its others, as they are written."""
+    ifaces = table.get("iface")
+    held = ifaces.held if ifaces is not None and ifaces.kind == "list" else []
+    found_here = [inner.get("address") for inner in held if inner.kind == "table"]
+    subnets = [each.held for each in found_here if each is not None and each.kind == "text"]
+    return [subnet.partition("/")[0] for subnet in subnets] + texts_in(table.get("addresses"))
 
 
 # ---- the file as it is read: refusal 39
@@ -274,11 +294,63 @@ class Judge:
         limit = table.get("rp_limit")
         if limit is not None and not 1 <= (self.number(table, "rp_limit", MOST_RPS, where) or 1) <= MOST_RPS:
             self.fault(limit.line, where, f"`rp_limit` is {found(limit)}, and wanted is 1 to {MOST_RPS}")
+        self.word(table, "choice", ("range", "group"), where)
+        self.candidates(table, where)
         made["sets"] = self.texts(table, "anycast", where, self.rp_set, FORMS["list of anycast"], False)
         made["addresses"] = self.texts(table, "addresses", where, self.own, FORMS["list of addresses"], False)
         made["routes"] = self.texts(table, "routes", where, self.route, FORMS["list of routes"], False)
         made["rps"] = self.texts(table, "rps", where, self.rp, FORMS["list of rps"], False)
         return made
+
+    def candidates(self, table: toml_lines.Value, where: str) -> None:
+        """As what a router stands in an election of RFC 5059."""
+        for key, keys in (("candidate_bsr", BSR_KEYS), ("candidate_rp", RP_KEYS)):
+            inner = table.get(key)
+            if inner is None:
+                continue
+            if inner.kind != "table":
+                self.fault(inner.line, where, f"`{key}` is {found(inner)}, and a table is wanted, with an `address`")
+                continue
+            here = f"{where}, `{key}`"
+            self.only(inner, keys, here, "a candidate")
+            self.own_address(table, inner, here)
+            self.up_to(inner, "priority", 0, 255, here)
+            if key == "candidate_bsr":
+                self.up_to(inner, "hash_length", 0, 32, here)
+                self.up_to(inner, "limit", 1, 255, here)
+            else:
+                self.ranges(inner, here)
+
+    def own_address(self, table: toml_lines.Value, inner: toml_lines.Value, where: str) -> None:
+        """The address of a candidate, one of the router's own, where the router hears Bootstraps."""
+        bsr = table.get("bsr")
+        if bsr is None or bsr.held is not True:
+            self.fault(inner.line, where, "the router hears no Bootstraps: a candidate needs bsr = true beside it")
+        text = self.wanted(inner, "address", "text", where, 'one of the router\'s addresses, as address = "10.0.0.1"')
+        if text is not None and text not in addresses_of(table):
+            self.fault(inner.get("address").line, where, f'`address` is "{text}", and none of the router\'s')
+
+    def up_to(self, table: toml_lines.Value, key: str, least: int, most: int, where: str) -> None:
+        """A number that may be missing, and else lies between two others."""
+        value = table.get(key)
+        number = None if value is None else self.number(table, key, least, where)
+        if number is not None and not least <= number <= most:
+            self.fault(value.line, where, f"`{key}` is {number}, and wanted is {least} to {most}")
+
+    def ranges(self, table: toml_lines.Value, where: str) -> None:
+        """The ranges of a candidate RP."""
+        made = self.texts(table, "ranges", where, self.range, FORMS["list of ranges"], True)
+        value = table.get("ranges")
+        if value is not None and value.kind == "list" and not 1 <= len(value.held) <= MOST_RANGES:
+            self.fault(value.line, where, f"there are {len(made)} ranges, and wanted are 1 to {MOST_RANGES}")
+
+    def range(self, _: list[str], inner: toml_lines.Value, place: str) -> tuple[int, int] | None:
+        prefix = prefix_in(inner.held)
+        if prefix is None:
+            return self.fault(inner.line, place, f'"{inner.held}": the prefix is wrong: {why_no_prefix(inner.held)}')
+        if not (is_group(prefix[0]) and 4 <= prefix[1] <= 32):
+            return self.fault(inner.line, place, f'"{inner.held}" is no range of groups: it is within 224.0.0.0/4')
+        return prefix
 
     def flag(self, table: toml_lines.Value, key: str, where: str) -> None:
         """A truth value that may be missing."""

@@ -14,7 +14,7 @@ from viqeshor.lab.addresses import ranges_of, routes_of
 from viqeshor.lab.scenario import numbers_after, places_of, router_of
 from viqeshor.lab.learner import Learner, hears
 from viqeshor.lab.rps import Candidate, candidates_of
-from viqeshor.lab.twin import Twin
+from viqeshor.lab.twin import Twin, is_taken
 
 if TYPE_CHECKING:
     from viqeshor.lab.addresses import Route
@@ -157,7 +157,7 @@ def copied(state: Known) -> Known:
 
 def follow(state: Known, step: Step) -> None:
     """The router took an event."""
-    if step.did is None or step.verdict != "done":
+    if step.did is None or not is_taken(step, state.router.table):
         return
     state.twin.add(step)
     state.moment = max(state.moment, step.moment)
@@ -180,6 +180,9 @@ def learn(state: Known) -> None:
     """The ranges of a router that hears Bootstraps are those that its listener gives it."""
     if hears(state.router.table):
         state.rps = given_of(state.twin, state.taken)
+    if state.router.table.get("choice") == "group":
+        texts = (" ".join(map(str, row)) for row in state.twin.candidates(state.taken))
+        state.candidates = candidates_of(texts)
 
 
 def given_of(twin: Twin, count: int) -> list[tuple[IPv4Network, str]]:

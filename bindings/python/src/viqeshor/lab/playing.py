@@ -174,7 +174,7 @@ class Player:
     def put(self, name: str, before: dict[str, Any]) -> None:
         """A router has another configuration than this one: with a listener or without."""
         table = self.teller.present.router(name).table
-        self.cores[name] = twin.with_listener(self.cores[name], before, table)
+        self.cores[name] = twin.with_listener(self.cores[name], before, table, self.clocks[name])
 
     def wake(self, name: str, core: Core) -> None:
         """Keeps when time does something for a router that has changed."""

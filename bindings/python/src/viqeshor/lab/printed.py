@@ -135,14 +135,42 @@ class LearnedRp(NamedTuple):
     state: str
 
 
+class StandingBsr(NamedTuple):
+    """What a candidate BSR is."""
+    state: str
+    end: float | None
+
+
+class HeldRp(NamedTuple):
+    """An RP of a range that an elected BSR holds."""
+    groups: str
+    rp: str
+    priority: int
+    holdtime: int
+    end: float | None
+
+
+class GoneRange(NamedTuple):
+    """A range whose last RP went."""
+    groups: str
+    end: float | None
+
+
+class ToldBsr(NamedTuple):
+    """The BSR that a candidate RP tells of itself."""
+    bsr: str
+    end: float | None
+
+
 ROWS = {
     "N": Neighbour, "G": GroupRecord, "S": SourceRecord, "D": Downstream, "A": AssertState, "U": Upstream,
-    "R": SharedTree, "F": Active, "O": OlderHosts, "B": ElectedBsr, "L": LearnedRp,
+    "R": SharedTree, "F": Active, "O": OlderHosts, "B": ElectedBsr, "L": LearnedRp, "E": StandingBsr, "H": HeldRp,
+    "W": GoneRange, "T": ToldBsr,
 }
 # The columns that are moments.
 ENDS = ("end", "pending", "one_end", "two_end")
 # The columns that are numbers.
-NUMBERS = ("iface", "priority")
+NUMBERS = ("iface", "priority", "holdtime")
 PACKETS = ("frame", "copy", "unicast")
 
 

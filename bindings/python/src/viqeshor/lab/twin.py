@@ -7,7 +7,7 @@ from typing import TYPE_CHECKING, Any
 
 import viqeshor
 from viqeshor.lab import faults, fed, learner, printed
-from viqeshor.lab.learner import Learner, hears
+from viqeshor.lab.learner import Learner, hears, stands
 from viqeshor.lab.scenario import places_of
 from viqeshor.rows import ends
 
@@ -38,12 +38,10 @@ def new_router(table: dict[str, Any], library: str | PathLike[str] | None = None
 
 
 def listening(
-    router: viqeshor.Router, table: dict[str, Any], library: str | PathLike[str] | None = None
+    router: viqeshor.Router, table: dict[str, Any], library: str | PathLike[str] | None = None, now: int = 0
 ) -> viqeshor.Router | Learner:
     """A router that has the ranges of a configuration, behind a new listener where that has one."""
-    if not hears(table):
-        return router
-    return Learner(router, fed.ranges(table.get("rps", [])), table.get("rp_limit", learner.MOST_RPS), library)
+    return Learner(router, table, now, library) if hears(table) else router
 
 
 def restored(state: bytes, table: dict[str, Any]) -> viqeshor.Router:
@@ -65,8 +63,15 @@ def set_as(router: viqeshor.Router, table: dict[str, Any]) -> viqeshor.Router:
     return router
 
 
+def is_taken(step: Step, table: dict[str, Any]) -> bool:
+    """Whether a step may have changed its router. A candidate BSR hastens by a message that it ignores."""
+    return step.verdict == "done" or (stands(table) and step.verdict.startswith("ignored"))
+
+
 def event_of(step: Step) -> fed.Event | None:
     """The event that a step was to its router, of which a `reload` is one too."""
+    if step.did["do"] == "restart":
+        return fed.Event("restart", 0, ())
     if step.did["do"] == "reload":
         return fed.Event("reload", step.did.get("draw", 0), (step.did["config"], places_of(step.did)))
     return fed.event(step)
@@ -76,6 +81,8 @@ def take(router: viqeshor.Router, event: fed.Event, table: dict[str, Any]) -> vi
     """What a router answers to an event. The table is its configuration until then."""
     if event.name == "reload":
         return reload(router, event, table)
+    if event.name == "restart":
+        return restart(router)
     if event.name == "advance" and "anycast" in table:
         stop_on_the_way(router, *event.values, event.draw)
     call, read = CALLS.get(event.name, (event.name, None))
@@ -88,6 +95,13 @@ def stop_on_the_way(router: viqeshor.Router, moment: int, draw: int) -> None:
     sources are announced when that is due."""
     while (ends := router.next_moment()) is not None and ends < moment:
         router.advance(ends, draw=draw)
+
+
+def restart(router: viqeshor.Router | Learner) -> viqeshor.Answer:
+    """A router that is restarted is the one that it was, but for what it stands as."""
+    if isinstance(router, Learner):
+        router.stand()
+    return viqeshor.Answer.DONE
 
 
 def reload(router: viqeshor.Router | Learner, event: fed.Event, before: dict[str, Any]) -> viqeshor.Answer:
@@ -119,10 +133,9 @@ def reload(router: viqeshor.Router | Learner, event: fed.Event, before: dict[str
             router.set_older_hosts(iface, hosts)
     for iface, _ in enumerate(config["iface"]):
         router.set_query_version(iface, config.get("query_version", 3))
-    if stays:
-        router.limit = config.get("rp_limit", learner.MOST_RPS)
-        return router.set_ranges(ranges, draw=event.draw)
-    return viqeshor.Answer.DONE
+    if isinstance(router, Learner):
+        router.leave(config)
+    return router.reload_beside(config, ranges, event.draw) if stays else viqeshor.Answer.DONE
 
 
 def lines_of(router: viqeshor.Router) -> list[str]:
@@ -134,12 +147,16 @@ def lines_of(router: viqeshor.Router) -> list[str]:
 
 
 def with_listener(
-    router: viqeshor.Router | Learner, before: dict[str, Any], table: dict[str, Any]
+    router: viqeshor.Router | Learner, before: dict[str, Any], table: dict[str, Any], now: int
 ) -> viqeshor.Router | Learner:
     """A router that got another configuration, behind a listener where that has one."""
     if hears(before) == hears(table):
         return router
-    return listening(router.router if isinstance(router, Learner) else router, table)
+    if not isinstance(router, Learner):
+        return listening(router, table, now=now)
+    if router.bsr.candidates():
+        router.router.set_candidates([])
+    return router.router
 
 
 def learned_rows(router: viqeshor.Router | Learner) -> list[printed.Row]:
@@ -167,13 +184,13 @@ class Twin:
 
     def __init__(self, table: dict[str, Any]) -> None:
         self.first = self.table = table
-        self.events, self.saved = [], {}
+        self.events, self.saved, self.now = [], {}, 0
         self.router, self.taken, self.sent = None, 0, []
         self.learns = hears(table)
 
     def take_note(self, step: Step) -> None:
         """The same of a step that the router may have refused or ignored."""
-        if step.verdict == "done":
+        if is_taken(step, self.first):
             self.add(step)
 
     def last(self) -> list[viqeshor.Sent]:
@@ -202,9 +219,11 @@ class Twin:
 
     def take(self, event: fed.Event) -> None:
         answer, self.sent = take(self.router, event, self.table), self.router.packets()
+        if event.name == "advance" and answer == viqeshor.Answer.DONE:
+            self.now = event.values[0]
         if event.name == "reload" and answer == viqeshor.Answer.DONE:
             before, (self.table, _) = self.table, event.values
-            self.router = with_listener(self.router, before, self.table)
+            self.router = with_listener(self.router, before, self.table, self.now)
 
     def begin(self, count: int) -> None:
         """Begins at the last state that was saved, up to so many events."""
@@ -213,7 +232,7 @@ class Twin:
             state, self.table = self.saved[self.taken]
             self.router = restored(state, self.table)
         else:
-            self.table = self.first
+            self.table, self.now = self.first, 0
             self.router = new_router(self.table)
 
     def stops(self, count: int) -> Iterator[int]:
@@ -229,6 +248,11 @@ class Twin:
         """The ranges that its listener gives it after so many events; none where it has no listener."""
         router = self.after(count)
         return router.bsr.given() if isinstance(router, Learner) else None
+
+    def candidates(self, count: int) -> list[tuple[str, str, int, int]]:
+        """The candidates that its listener gives it after so many events."""
+        router = self.after(count)
+        return router.bsr.candidates() if isinstance(router, Learner) else []
 
     def copy(self, count: int) -> viqeshor.Router:
         """Another router after so many events, which may take others from then on."""

@@ -1,4 +1,4 @@
-use Rattle.std.{proofs.Common.{List, ap, subst, sym, ◌≡◌, ◌∙◌}}
+use Rattle.std.proofs.Common.{ap, subst, sym, ◌≡◌, ◌∙◌}
 use Rattle.pim_types.{specs.declared.config.RpTable.RpTable}
 use Rattle.pim_model.{specs.Step.rps_replaced}
 use Rattle.pim_event.{specs.Replacing.RangesReplaced}

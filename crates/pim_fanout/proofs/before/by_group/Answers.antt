@@ -1,4 +1,4 @@
-use Rattle.std.{proofs.{Common.{rules, subst, sym, ◌∙◌}, lemmas.List.Sorted.IsNonDecreasingBy-from_sort_by_key}, specs.List.Sorted.IsPermutation}
+use Rattle.std.proofs.{Common.rules, lemmas.List.Sorted.IsNonDecreasingBy-from_sort_by_key}
 use Rattle.pim_types.{specs.Keys.group_in}
 use Rattle.pim_fanout.proofs.before.by_group.Goals as goal
 

@@ -1,4 +1,4 @@
-use Rattle.std.{proofs.{Common.{rules, ltb, ◌∙◌}, lemmas.List.Sorted.{IsPartitionPoint-from_clause, IsPartitionedBy-ltb}}}
+use Rattle.std.proofs.{Common.{rules, ltb}, lemmas.List.Sorted.{IsPartitionPoint-from_clause, IsPartitionedBy-ltb}}
 use Rattle.pim_types.{specs.Keys.group_in}
 use Rattle.pim_fanout.{proofs.Grouping.{from_place, order_from}}
 use Rattle.pim_fanout.proofs.before.from.Goals as goal

@@ -1,4 +1,4 @@
-use Rattle.std.{proofs.{Common.{rules, leb, ◌∙◌}, lemmas.List.Sorted.{IsPartitionPoint-from_clause, IsPartitionedBy-leb}}}
+use Rattle.std.proofs.{Common.{rules, leb}, lemmas.List.Sorted.{IsPartitionPoint-from_clause, IsPartitionedBy-leb}}
 use Rattle.pim_types.{specs.Keys.group_in}
 use Rattle.pim_fanout.{proofs.Grouping.up_to_place}
 use Rattle.pim_fanout.proofs.before.up_to.Goals as goal

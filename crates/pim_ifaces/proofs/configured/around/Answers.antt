@@ -1,4 +1,4 @@
-use Rattle.std.{proofs.{Common.{None, Option, Some, leb, rules, subst, sym, ◌∙◌}, lemmas.List.Sorted.{IsPartitionPoint-from_clause, IsPartitionedBy-leb}}}
+use Rattle.std.proofs.{Common.{None, Some, leb, rules, subst, sym, ◌∙◌}, lemmas.List.Sorted.{IsPartitionPoint-from_clause, IsPartitionedBy-leb}}
 use Rattle.pim_ifaces.{specs.{declared.configured.Own.Own, Subnets.Finds}, proofs.Around.{of_before, of_place}}
 use Rattle.pim_ifaces.proofs.configured.around.Goals as goal
 

@@ -1,4 +1,4 @@
-use Rattle.std.{proofs.Common.{◌≡◌, ◌-◌, Some, ap, refl, sym, ◌∙◌, arith}, specs.Prelude.Option}
+use Rattle.std.proofs.Common.{◌-◌, Some, ap, refl, sym, ◌∙◌, arith}
 use Rattle.pim_types.{specs.declared.config.RpCandidate.RpCandidate}
 use Rattle.pim_mrib.{proofs.Scan.{none_yet, passed, taken}}
 use Rattle.pim_mrib.proofs.choice.chosen_among.Goals as goal

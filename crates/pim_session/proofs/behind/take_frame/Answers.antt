@@ -1,4 +1,4 @@
-use Rattle.std.{proofs.Common.{◌≡◌, ◌∙◌, Bool, true, false, IsOk}}
+use Rattle.std.proofs.Common.{◌≡◌, ◌∙◌, true, false, IsOk}
 use Rattle.igmp_older.{specs.Routers.queried}
 use Rattle.pim_session.{specs.Front.hears_queries, proofs.Taking.{frame_surely, frame_took, query_surely, query_written, unheard, wrote_surely}}
 use Rattle.pim_session.proofs.behind.take_frame.Goals as goal

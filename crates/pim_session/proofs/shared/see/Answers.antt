@@ -1,4 +1,3 @@
-use Rattle.std.{proofs.Common.◌∙◌}
 use Rattle.pim_session.{proofs.Sharing.saw_all}
 use Rattle.law_plane.{specs.Seen.seen_event}
 use Rattle.pim_session.proofs.shared.see.Goals as goal

@@ -1,5 +1,5 @@
 use Rattle.std.{proofs.{Common.{◌≤◌, List, ap, length, slice_set, sym, ◌∙◌, arith}, lemmas.List.set_past}}
-use Rattle.igmp_older.{specs.{Presence.{Present, heard_on, left, set_on, with_hosts}, declared.setting.OlderHosts.OlderHosts}, proofs.SetHosts.settings_stay}
+use Rattle.igmp_older.{specs.{Presence.{Present, set_on, with_hosts}, declared.setting.OlderHosts.OlderHosts}, proofs.SetHosts.settings_stay}
 use Rattle.igmp_older.proofs.presence.Presence.set_hosts.Goals as goal
 
 pub returns-then-place-len : goal.returns-then-place-len

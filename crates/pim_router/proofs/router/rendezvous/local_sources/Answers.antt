@@ -1,4 +1,4 @@
-use Rattle.std.{proofs.Common.{◌∙◌, ◌&&◌, List, ap, filter}}
+use Rattle.std.proofs.Common.{◌∙◌, ◌&&◌, ap, filter}
 use Rattle.pim_types.{specs.{Keys.{group_in, source_in}, declared.fact.Key.Key}}
 use Rattle.pim_model.{specs.{Sets.is_kept_alive, Unicast.route}}
 use Rattle.law_events.{specs.Adjacent.has_link_dr}

@@ -1,6 +1,6 @@
-use Rattle.std.{proofs.Common.{◌≡◌, Ok, [], ap, refl, subst, sym, ◌∙◌, false, true}}
+use Rattle.std.proofs.Common.{◌≡◌, Ok, ap, refl, subst, sym, ◌∙◌, false, true}
 use Rattle.pim_ip.{specs.declared.refusal.Refusal.Refusal}
-use Rattle.pim_model.{specs.{Limits.{are_routes, are_rps}, State.{addressing_of, settings_of}}}
+use Rattle.pim_model.specs.{Limits.{are_routes, are_rps}, State.settings_of}
 use Rattle.pim_ifaces.{specs.Interfaces.interfaces_test}
 use Rattle.pim_state.{proofs.Accepted.{addresses_refused, all_accepted, chosen, from_given, interfaces_tested, opens, own_from_given, querier_within, routes_refused, rps_refused, settings_refused, test_failed, test_held}}
 use Rattle.pim_state.proofs.world.World.new.Goals as goal

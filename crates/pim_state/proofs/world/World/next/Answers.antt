@@ -1,4 +1,3 @@
-use Rattle.std.{proofs.Common.◌∙◌}
 use Rattle.pim_state.{proofs.NextEnding.kept_is_next}
 use Rattle.pim_state.proofs.world.World.next.Goals as goal
 

@@ -1,0 +1,10 @@
+-- An address that is none of the router's.
+use Rattle.toml.{specs.View.table_view}
+use Rattle.pim_scenario.{specs.Standing.{IsRp, IsOwnAddress}, proofs.ReadLemmas.fails}
+use Rattle.pim_scenario.proofs.scenario.standing.rp_in.Goals as goal
+
+pub returns-in_err-own_address_in : goal.returns-in_err-own_address_in
+returns-in_err-own_address_in c =
+    fails (IsRp (table_view c.args.router.now) (table_view c.args.table.now))
+    (IsOwnAddress (table_view c.args.router.now) (table_view c.args.table.now)) _ _
+    c.from_residual-in_err-own_address_in.ensures.1 (λ r is. (r.address, is.address)) c.in_err-own_address_in.ensures
