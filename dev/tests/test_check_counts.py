@@ -12,9 +12,7 @@ CRATES = stored.TOOLS.parent / "crates"
 
 class Spoilt(unittest.TestCase):
     def setUp(self):
-        room = tempfile.TemporaryDirectory()
-        self.addCleanup(room.cleanup)
-        self.root = Path(room.name)
+        self.root = Path(self.enterContext(tempfile.TemporaryDirectory()))
         shutil.copy(CRATES.parent / "crates.txt", self.root)
         for crate in check_counts.crates_below(CRATES.parent, "pim_router"):
             shutil.copytree(CRATES / crate / "src", self.root / "crates" / crate / "src")

@@ -114,6 +114,12 @@ class Read(unittest.TestCase):
         known = "its text is refused, before|it ends with an error that no|isn't UTF-8|isn't TOML|a router stands in an"
         self.assertFalse({name: why for name, why in aside.items() if not re.search(known, why)})
 
+    def test_a_reload_to_a_choice_for_each_group_is_set_aside(self):
+        given = (stored.DATA / "bsr_and_a_reload.toml").read_text()
+        with repository({"a.toml": given.replace("rp_limit = 1", 'choice = "group"')}) as room:
+            with self.assertRaisesRegex(run.SetAside, "chooses RPs for each group"):
+                run.read_case(room / "a.toml", is_expected=False)
+
     def test_a_refused_configuration(self):
         for path in stored.DATA.glob("*.err"):
             number = int(re.search(r"refused: (\d+)", path.read_text() + " refused: 0")[1])

@@ -33,9 +33,7 @@ hint = "{}"
 
 class Tables(unittest.TestCase):
     def setUp(self):
-        room = tempfile.TemporaryDirectory(prefix="tables-")
-        self.addCleanup(room.cleanup)
-        self.top = Path(room.name)
+        self.top = Path(self.enterContext(tempfile.TemporaryDirectory(prefix="tables-")))
         for path in FILES:
             (self.top / path).parent.mkdir(parents=True, exist_ok=True)
             shutil.copyfile(TOP / path, self.top / path)
@@ -190,7 +188,7 @@ class Tables(unittest.TestCase):
         self.assertEqual(self.holders("odd_total`"), {"docs/LINUX.md"})
         self.assertEqual(self.holders("families::ODD_TOTAL, it.odd"), {"linux/src/show.rs"})
         self.assertEqual(self.holders("pub odd: u64,"), {"linux/src/counters.rs"})
-        self.assertEqual(self.holders('help: "The number of odd things."'), {"linux/src/metrics/families.rs"})
+        self.assertEqual(self.holders('"The number of odd things.";'), {"linux/src/metrics/families.rs"})
 
     def test_a_watched_metric_has_to_be_one(self):
         self.changed("tables/metrics.toml", 'name = "bfd_session_up"', 'name = "bfd_session"')

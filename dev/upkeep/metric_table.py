@@ -24,16 +24,11 @@ def help_of(it: Metric) -> str:
 
 
 def families(table: dict[str, Any]) -> Iterator[str]:
-    """A constant for each metric, as rustfmt has it."""
+    """A constant for each metric."""
     for it in metrics(table):
-        fields = [f'name: "{it["name"]}"', f"kind: Kind::{it['kind'].capitalize()}", f'help: "{help_of(it)}"']
-        line = f"pub const {constant(it)}: Family = Family {{ {', '.join(fields)} }};"
-        if len(line) <= WIDTH:
-            yield line
-        elif len(inner := f"    Family {{ {', '.join(fields)} }};") <= WIDTH:
-            yield from (f"pub const {constant(it)}: Family =", inner)
-        else:
-            yield from (f"pub const {constant(it)}: Family = Family {{", *(f"    {each}," for each in fields), "};")
+        first, second = f'    {constant(it)} {it["kind"].capitalize()} "{it["name"]}"', f'"{help_of(it)}";'
+        one = f"{first} {second}"
+        yield from [one] if len(one) <= WIDTH else [first, f"        {second}"]
 
 
 def counters(table: dict[str, Any]) -> Iterator[str]:

@@ -75,7 +75,7 @@ fn of_the_file(settings: &Settings) -> Vec<String> {
     let open: Vec<_> = settings.interfaces.iter().filter(|it| is_open(it)).map(|it| it.name.as_str()).collect();
     if !open.is_empty() {
         notes.push(format!(
-            "{} has neither `passive` nor `neighbors`: a host there that sends PIM may stop the streams of its link",
+            "neither `passive` nor `neighbors` on {}: a host there that sends PIM may stop the streams of its link",
             open.join(", ")
         ));
     }
@@ -143,7 +143,7 @@ mod tests {
     fn what_an_operator_may_miss_is_noted() {
         let rp = "[[rp]]\ngroups = \"239.0.0.0/8\"\naddress = \"10.0.0.1\"\n";
         assert_eq!((noted(TWO, "no [[rp]]"), noted(&format!("{TWO}{rp}"), "no [[rp]]")), (1, 0));
-        assert_eq!(noted(TWO, "eth0 has neither `passive` nor `neighbors`"), 1);
+        assert_eq!(noted(TWO, "neither `passive` nor `neighbors` on eth0:"), 1);
         let listed = TWO.replace("\"eth0\"\n", "\"eth0\"\nneighbors = [\"10.0.0.2\"]\n");
         assert_eq!(noted(&listed, "neither `passive`"), 0);
         let with_peer = format!("{TWO}[[msdp]]\npeer = \"10.0.0.2\"\naddress = \"10.0.0.1\"\n");

@@ -9,6 +9,7 @@ mod forwarding;
 mod heard;
 mod machine;
 mod msdp;
+mod newcomers;
 mod overridden;
 mod reconfigured;
 mod renumbered;
@@ -59,6 +60,7 @@ pub struct Neighbour {
     /// Of the last Hello, in words.
     pub said: String,
     pub priority: Option<u32>,
+    pub generation: Option<u32>,
 }
 
 /// An interface and an address on its link.
@@ -69,7 +71,7 @@ type Place = (u32, Ipv4Addr);
 pub struct Neighbours {
     pub known: BTreeMap<Place, Neighbour>,
     /// The last Hello of each, until the router has it as a neighbour.
-    hellos: BTreeMap<Place, (String, Option<u32>)>,
+    hellos: BTreeMap<Place, Neighbour>,
     are_stale: bool,
 }
 
@@ -556,6 +558,7 @@ fn send_on(kernel: &mut dyn Kernel, port: Option<&mut Port>, is_passive: bool, b
     if hello.is_some() {
         port.hello_due = port.settings.hello.repeated().map(|interval| kernel.now() + interval);
         port.hello = hello.clone();
+        port.newcomers.greet();
     }
     match kernel.send_on(index, bytes) {
         Ok(()) if packet.map_or(false, Packet::is_data) => port.passed.copies += 1,

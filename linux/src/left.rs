@@ -71,6 +71,8 @@ pub struct LeftNeighbour {
     pub since: u64,
     pub said: String,
     pub priority: Option<u32>,
+    #[serde(default)]
+    pub generation: Option<u32>,
 }
 
 #[derive(Clone, Debug, PartialEq, Eq, Serialize, Deserialize)]
@@ -344,7 +346,14 @@ mod tests {
                 hello: Some(vec![1, 2, 3]),
                 hello_due: Some(8),
             }],
-            neighbours: vec![LeftNeighbour { iface: 0, address, since: 9, said: "it".to_string(), priority: None }],
+            neighbours: vec![LeftNeighbour {
+                iface: 0,
+                address,
+                since: 9,
+                said: "it".to_string(),
+                priority: None,
+                generation: Some(7),
+            }],
             sessions: vec![LeftSession { iface: 0, address, session: Session::new(times, 77, 10) }],
             entries: vec![LeftEntry::of(key, &entry)],
             learned: Some(11),

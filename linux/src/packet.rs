@@ -187,12 +187,17 @@ pub fn message_of(packet: Packet) -> Option<Message> {
 
 /// The goodbye of a router: a Hello that holds for no time.
 pub fn goodbye_of(router: Ipv4Addr) -> Vec<u8> {
-    let mut hello = [0x20, 0, 0, 0, 0, 1, 0, 2, 0, 0];
-    put_checksum(&mut hello, 2);
+    to_link(router, &[0x20, 0, 0, 0, 0, 1, 0, 2, 0, 0])
+}
+
+/// A message of PIM without its checksum, to the routers of a link.
+pub fn to_link(from: Ipv4Addr, message: &[u8]) -> Vec<u8> {
+    let mut message = message.to_vec();
+    put_checksum(&mut message, 2);
     let mut header = [0x45, 0xc0, 0, 0, 0, 0, 0, 0, 1, PIM, 0, 0, 0, 0, 0, 0, 0, 0, 0, 0];
-    header[12..16].copy_from_slice(&router.octets());
+    header[12..16].copy_from_slice(&from.octets());
     header[16..].copy_from_slice(&ALL_PIM_ROUTERS.octets());
-    with_content(&header, &hello)
+    with_content(&header, &message)
 }
 
 /// The advertisement of a candidate RP of groups to a BSR (RFC 5059, 4.2), which holds for some seconds.
@@ -241,11 +246,21 @@ pub fn options(message: &[u8]) -> Vec<(usize, Range<usize>)> {
 
 const HOLDTIME: usize = 1;
 const PRIORITY: usize = 19;
+const GENERATION: usize = 20;
 
 /// The DR priority of a Hello, where it has one.
 pub fn priority_of(hello: Packet) -> Option<u32> {
+    number_of(hello, PRIORITY)
+}
+
+/// The generation ID of a Hello, where it has one.
+pub fn generation_of(hello: Packet) -> Option<u32> {
+    number_of(hello, GENERATION)
+}
+
+fn number_of(hello: Packet, option: usize) -> Option<u32> {
     let message = hello.content();
-    let found = options(message).into_iter().find(|(kind, value)| *kind == PRIORITY && value.len() == 4);
+    let found = options(message).into_iter().find(|(kind, value)| *kind == option && value.len() == 4);
     found.map(|(_, value)| address(message, value.start).into())
 }
 

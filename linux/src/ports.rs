@@ -110,6 +110,25 @@ impl Standing {
     }
 }
 
+/// The neighbours of an interface that are to be told.
+#[derive(Clone, Copy, Debug, PartialEq, Eq)]
+pub enum Newcomers {
+    Nobody,
+    /// They don't know the router yet, and would ignore what it says.
+    Ungreeted,
+    /// A Hello has left there since.
+    Greeted,
+}
+
+impl Newcomers {
+    /// A Hello left.
+    pub fn greet(&mut self) {
+        if *self == Newcomers::Ungreeted {
+            *self = Newcomers::Greeted;
+        }
+    }
+}
+
 /// What passed an interface.
 #[derive(Clone, Copy, Debug, Default)]
 pub struct Passed {
@@ -141,6 +160,8 @@ pub struct Port {
     pub hello: Option<Vec<u8>>,
     /// When it leaves again, in ms, where the library's own come too seldom.
     pub hello_due: Option<u64>,
+    /// Whether neighbours that have just come there are to be told of RPs.
+    pub newcomers: Newcomers,
     /// The kernel's number of the interface on which BFD is heard for it.
     pub bfd_index: Option<u32>,
     pub passed: Passed,
@@ -164,6 +185,7 @@ impl Port {
             since: 0,
             hello: None,
             hello_due: None,
+            newcomers: Newcomers::Nobody,
             bfd_index: None,
             passed: Passed::default(),
         }

@@ -1299,7 +1299,7 @@ mod tests {
         let address = Ipv4Addr::new(10, 0, 0, 1);
         let range = |text: &str| text.parse::<Prefix>().expect("a prefix");
         let usual = of("address = \"10.0.0.1\"", &rp("ranges = [\"239.0.0.0/8\", \"224.0.0.0/4\"]\n")).unwrap();
-        assert_eq!(usual.bsr, Some(CandidateBsr { address, priority: 0, hash_length: 30, limit: 255 }));
+        assert_eq!(usual.bsr, Some(CandidateBsr { address, priority: 64, hash_length: 30, limit: 255 }));
         let ranges = vec![range("239.0.0.0/8"), range("224.0.0.0/4")];
         assert_eq!(usual.rp, Some(CandidateRp { address, priority: 192, ranges }));
         let all = "address = \"10.0.0.1\", priority = 255, hash_length = 0, limit = 1";

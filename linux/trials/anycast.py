@@ -11,12 +11,10 @@ RP of west, and `two` of east, and what the two exchange otherwise goes by `two`
 """
 from __future__ import annotations
 
-import os
-import shutil
 import time
 from typing import TYPE_CHECKING
 
-from trials.network import AS_SERVICE, NAMES, NOBODY, Failed, inside, ip, run, until
+from trials.network import Failed, came_with_gap, inside, ip, run, until
 
 if TYPE_CHECKING:
     import subprocess
@@ -67,17 +65,12 @@ class Square:
         self.net, self.routers = net, {}
 
     def lay_out(self) -> None:
+        self.net.add(ROUTES)
         for place in ROUTES:
-            run("ip", "netns", "add", NAMES[place])
-            ip(place, "link", "set", "lo", "up")
             run(*inside(place, "sysctl", "-qw", f"net.ipv4.ip_forward={int(place in PORTS)}"))
-        for link in LINKS:
-            self.net.connect(*link)
+        self.net.connect_all(LINKS, ROUTES)
         for place in OWN:
             ip(place, "address", "add", f"{SHARED}/32", "dev", "lo")
-        for place, routes in ROUTES.items():
-            for route in routes:
-                ip(place, "route", "add", *route.split())
 
     def settings(self, place: str) -> str:
         ports = "".join(f'[[interface]]\nname = "to-{port}"\n\n' for port in PORTS[place])
@@ -93,16 +86,7 @@ class Square:
         return self.net.room / place / "control"
 
     def start(self, place: str) -> None:
-        room = self.net.room
-        own, program = room / place, room / "viqeshord"
-        own.mkdir(exist_ok=True)
-        os.chown(own, NOBODY, NOBODY)
-        if not program.exists():
-            shutil.copy(self.net.built / "viqeshord", program)
-        file = room / f"{place}.toml"
-        file.write_text(self.settings(place))
-        with open(room / f"{place}.log", "a") as log:
-            self.routers[place] = self.net.start(place, *AS_SERVICE, program, "run", file, stderr=log)
+        self.routers[place] = self.net.start_another(place, self.settings(place))
 
     def show(self, place: str, topic: str) -> list[dict[str, Any]]:
         return self.net.show(topic, control=self.control(place))
@@ -158,12 +142,6 @@ def kill(square: Square) -> float:
     return 1000 * (time.monotonic() - began)
 
 
-def told(receiver: subprocess.Popen[str]) -> tuple[int, int, int]:
-    """How many came, of how many, and the longest time between two, in ms."""
-    words = receiver.communicate()[0].split()
-    return int(words[1]), int(words[3].rstrip(",")), int(words[words.index("gap") + 1])
-
-
 def rps_share_an_address(net: Network) -> str:
     """two RPs with one address serve each other's receivers; one is killed, and streams go on with unicast routing"""
     square = Square(net)
@@ -175,7 +153,7 @@ def rps_share_an_address(net: Network) -> str:
         moved = kill(square)
         gaps, lost = [], []
         for receiver, (group, *_) in zip(receivers, STREAMS):
-            came, of, gap = told(receiver)
+            came, of, gap = came_with_gap(receiver)
             if gap > moved + FOLLOWING or of - came > RATE * (gap + 2_000) / 1_000:
                 raise Failed(f"{group}: {came} of {of} came, with a gap of {gap} ms, of which routing took {moved:.0f}")
             gaps.append(gap)

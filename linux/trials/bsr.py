@@ -9,21 +9,15 @@ one for the range, and so has the router, or one for each group, as its settings
 """
 from __future__ import annotations
 
-import json
-import os
-import shutil
-import signal
 import time
 from collections import Counter
 from ipaddress import IPv4Address, IPv4Network
 from typing import TYPE_CHECKING
 
-from trials.network import AS_SERVICE, NAMES, NOBODY, PIMD, SENDER, Failed, inside, ip, run, until
-from trials.upgrade import GOES_ON
+from trials.network import PIMD, SENDER, Failed, came_with_gap, inside, run, until
 
 if TYPE_CHECKING:
     import subprocess
-    from pathlib import Path
 
     from trials.network import Network
 
@@ -78,55 +72,27 @@ class Chain:
         self.control = net.room / "heard" / "control"
 
     def lay_out(self) -> None:
-        for place in ROUTES:
-            run("ip", "netns", "add", NAMES[place])
-            ip(place, "link", "set", "lo", "up")
-        for link in LINKS:
-            self.net.connect(*link)
-        for place, routes in ROUTES.items():
-            for route in routes:
-                ip(place, "route", "add", *route.split())
-        for place in ("heard", "behind"):
-            run(*inside(place, "sysctl", "-qw", "net.ipv4.ip_forward=1"))
+        self.net.add(ROUTES)
+        self.net.connect_all(LINKS, ROUTES, ("heard", "behind"))
 
     def start(self, choice: str = "range") -> None:
         PIMD["behind"] = f"interface to-heard\n ip pim\n ip pim hello {HELLO}\n"
         PIMD["behind"] += "interface to-behind-host\n ip pim\n ip igmp\n"
         self.net.start_frr("behind")
-        own = self.net.room / "heard"
-        own.mkdir(exist_ok=True)
-        os.chown(own, NOBODY, NOBODY)
-        program = self.net.room / "viqeshord"
-        if not program.exists():
-            shutil.copy(self.net.built / "viqeshord", program)
-        file = self.settings(choice)
-        with open(self.net.room / "heard.log", "a") as log:
-            self.router = self.net.start("heard", *AS_SERVICE, program, "run", file, stderr=log)
+        self.router = self.net.start_another("heard", self.settings(choice))
 
-    def settings(self, choice: str) -> Path:
-        """The file of the router's settings."""
+    def settings(self, choice: str) -> str:
         ports = "".join(f'[[interface]]\nname = "to-{port}"\n\n' for port in ("bsr", "behind", "heard-host"))
         own, heard = f'log = "debug"\nsocket = "{self.control}"\n\n', f'[bsr]\nlisten = true\nchoice = "{choice}"\n'
-        file = self.net.room / "heard.toml"
-        file.write_text(f"{own}{ports}{heard}")
-        return file
+        return f"{own}{ports}{heard}"
 
     def reload(self, choice: str) -> None:
         """The router takes another choice while it runs."""
-        log, taken = self.net.room / "heard.log", "the settings are read anew"
-        before = log.read_text().count(taken)
-        self.settings(choice)
-        self.router.send_signal(signal.SIGHUP)
-        until("the settings are taken", 30, lambda: log.read_text().count(taken) > before)
+        self.net.read_anew("heard", self.router, self.settings(choice), "the settings are taken")
 
     def upgrade(self) -> None:
         """Another program takes the router's place."""
-        program, log = self.net.room / "viqeshord", self.net.room / "heard.log"
-        before = log.read_text().count(GOES_ON)
-        shutil.copy(program, self.net.room / "viqeshord.new")
-        os.rename(self.net.room / "viqeshord.new", program)
-        self.router.send_signal(signal.SIGUSR2)
-        until("the other program goes on", 30, lambda: log.read_text().count(GOES_ON) > before)
+        self.net.upgrade(self.router, "the other program goes on", "heard")
 
     def say(self, seconds: int, *rps: str, fragments: int = 0) -> subprocess.Popen[str]:
         """The BSR says for so many seconds that these are the RPs of each range; it may say the first so many alone, in
@@ -160,16 +126,10 @@ class Chain:
 
     def behind(self) -> dict[str, str]:
         """The RPs that FRR learned, by their ranges."""
-        said = self.net.frr("behind", "show ip pim rp-info json")
-        rows = [(rp, row) for rp, found in (json.loads(said) if said.strip() else {}).items() for row in found]
-        return {row["group"]: rp for rp, row in rows if row["source"] == "BSR"}
+        return self.net.learned_by_frr("behind")
 
     def end(self) -> None:
-        for one in self.net.running[self.before:]:
-            if one.poll() is None:
-                one.terminate()
-                one.wait()
-        self.net.delete(ROUTES)
+        self.net.clear(self.before, ROUTES)
 
 
 def both_have(chain: Chain, what: str, rps: list[str]) -> dict[str, str]:
@@ -184,15 +144,21 @@ def both_have(chain: Chain, what: str, rps: list[str]) -> dict[str, str]:
     return chain.heard()
 
 
+def begin(chain: Chain) -> dict[str, str]:
+    """Both have RPs of a BSR that then falls silent."""
+    chain.lay_out()
+    chain.start()
+    first = chain.say(25, *CANDIDATES)
+    chosen = both_have(chain, "both have RPs of the BSR", CANDIDATES)
+    first.terminate()
+    return chosen
+
+
 def bootstraps_are_heard_and_passed_on(net: Network) -> str:
     """the router and FRR behind it have the RPs of a BSR; a fragment moves none, a message both, silence ends both"""
     chain = Chain(net)
     try:
-        chain.lay_out()
-        chain.start()
-        first = chain.say(25, *CANDIDATES)
-        chosen = both_have(chain, "both have RPs of the BSR", CANDIDATES)
-        first.terminate()
+        chosen = begin(chain)
         chain.say(5, OTHER, LAST, fragments=1).wait()
         if not chain.heard() == chain.behind() == chosen:
             raise Failed(f"by a fragment the router has {chain.heard()}, and FRR {chain.behind()}")
@@ -225,8 +191,7 @@ def a_learned_rp_serves_a_stream(net: Network) -> str:
         first.terminate()
         chain.say(SECONDS, NEXT)
         both_have(chain, f"both have {NEXT}", [NEXT])
-        words = receiver.communicate()[0].split()
-        came, gap = int(words[1]), int(words[words.index("gap") + 1])
+        came, _, gap = came_with_gap(receiver)
         if count - came > MOST_LOST or gap > LONGEST_GAP:
             raise Failed(f"{came} of {count} came, with a gap of {gap} ms")
     finally:
@@ -238,11 +203,7 @@ def what_was_learned_outlasts_an_upgrade(net: Network) -> str:
     """after an upgrade the router has a silent BSR's RPs until their ends, and puts a fragment to one of before"""
     chain = Chain(net)
     try:
-        chain.lay_out()
-        chain.start()
-        first = chain.say(25, *CANDIDATES)
-        chosen = both_have(chain, "both have RPs of the BSR", CANDIDATES)
-        first.terminate()
+        chosen = begin(chain)
         chain.upgrade()
         if chain.heard() != chosen:
             raise Failed(f"after an upgrade the router has learned {chain.heard()}")

@@ -11,14 +11,10 @@ of its release, is a candidate in both roles itself.
 from __future__ import annotations
 
 import json
-import os
-import shutil
-import signal
 import time
 from typing import TYPE_CHECKING
 
-from trials.network import AS_SERVICE, NAMES, NOBODY, PIMD, Failed, inside, ip, run, until
-from trials.upgrade import GOES_ON
+from trials.network import PIMD, Failed, came_with_gap, until
 
 if TYPE_CHECKING:
     import subprocess
@@ -65,59 +61,28 @@ class Chain:
         self.routers: dict[str, subprocess.Popen[str]] = {}
 
     def lay_out(self) -> None:
-        for place in ROUTES:
-            run("ip", "netns", "add", NAMES[place])
-            ip(place, "link", "set", "lo", "up")
-        for link in LINKS:
-            self.net.connect(*link)
-        for place, routes in ROUTES.items():
-            for route in routes:
-                ip(place, "route", "add", *route.split())
-        for place in (*PORTS, "behind"):
-            run(*inside(place, "sysctl", "-qw", "net.ipv4.ip_forward=1"))
+        self.net.add(ROUTES)
+        self.net.connect_all(LINKS, ROUTES, (*PORTS, "behind"))
 
     # ---- our routers
 
     def control(self, place: str) -> object:
         return self.net.room / f"of-{place}" / "control"
 
-    def write(self, place: str, bsr: tuple[str, int] | None = None, rp: tuple[str, int] | None = None) -> None:
-        (self.net.room / f"{place}.toml").write_text(settings(place, self.control(place), bsr, rp))
-
     def start(self, place: str, bsr: tuple[str, int] | None = None, rp: tuple[str, int] | None = None) -> None:
-        own, program = self.net.room / f"of-{place}", self.net.room / "viqeshord"
-        own.mkdir(exist_ok=True)
-        os.chown(own, NOBODY, NOBODY)
-        if not program.exists():
-            shutil.copy(self.net.built / "viqeshord", program)
-        self.write(place, bsr, rp)
-        with open(self.net.room / f"{place}.log", "a") as log:
-            words = [*AS_SERVICE, program, "run", self.net.room / f"{place}.toml"]
-            self.routers[place] = self.net.start(place, *words, stderr=log)
+        told = settings(place, self.control(place), bsr, rp)
+        self.routers[place] = self.net.start_another(place, told, f"of-{place}")
 
     def reload(self, place: str, bsr: tuple[str, int] | None = None, rp: tuple[str, int] | None = None) -> None:
-        log, taken = self.net.room / f"{place}.log", "the settings are read anew"
-        before = log.read_text().count(taken)
-        self.write(place, bsr, rp)
-        self.routers[place].send_signal(signal.SIGHUP)
-        until(f"{place} takes its settings", 30, lambda: log.read_text().count(taken) > before)
+        told = settings(place, self.control(place), bsr, rp)
+        self.net.read_anew(place, self.routers[place], told, f"{place} takes its settings")
 
     def upgrade(self, place: str) -> None:
         """Another program takes the router's place."""
-        program, log = self.net.room / "viqeshord", self.net.room / f"{place}.log"
-        before = log.read_text().count(GOES_ON)
-        shutil.copy(program, self.net.room / "viqeshord.new")
-        os.rename(self.net.room / "viqeshord.new", program)
-        self.routers[place].send_signal(signal.SIGUSR2)
-        until(f"another program goes on as {place}", 30, lambda: log.read_text().count(GOES_ON) > before)
+        self.net.upgrade(self.routers[place], f"another program goes on as {place}", place)
 
     def end(self) -> None:
-        for one in reversed(self.net.running[self.before:]):
-            if one.poll() is None:
-                one.terminate()
-        for one in self.net.running[self.before:]:
-            one.wait()
-        self.net.delete(ROUTES)
+        self.net.clear(self.before, ROUTES)
 
     def rows(self, place: str, what: str) -> list[dict[str, object]]:
         """The rows of `show bsr` of a kind."""
@@ -141,9 +106,7 @@ class Chain:
         return {row["groups"]: row["rp"] for row in rows if row["from"] == "bsr" and row["chosen_for"] == "range"}
 
     def rps_of_frr(self) -> dict[str, str]:
-        said = self.net.frr("behind", "show ip pim rp-info json")
-        rows = [(rp, row) for rp, found in (json.loads(said) if said.strip() else {}).items() for row in found]
-        return {row["group"]: rp for rp, row in rows if row["source"] == "BSR"}
+        return self.net.learned_by_frr("behind")
 
     def all_have(self, what: str, rps: Iterable[str], seconds: float = SOON, places: Iterable[str] = PORTS) -> None:
         """Each router has an RP of each range, all the same, and these RPs are all that there are."""
@@ -236,8 +199,7 @@ def another_bsr_takes_over(net: Network) -> str:
         chain.all_have("both still have both RPs", [ONE, EAST], SOON, ["one", "east"])
         chain.reload("one")
         chain.all_have("one goes, and east has all ranges", [EAST], SOON, ["one", "east"])
-        words = receiver.communicate()[0].split()
-        came, gap = int(words[1]), int(words[words.index("gap") + 1])
+        came, _, gap = came_with_gap(receiver)
         if count - came > MOST_LOST or gap > LONGEST_GAP:
             raise Failed(f"{came} of {count} came, with a gap of {gap} ms")
     finally:

@@ -10,16 +10,13 @@ import threading
 import time
 from typing import TYPE_CHECKING
 
-from trials.network import HOST, SENDER, SOURCE, Failed, ended, first_after, goes_on, inside, ip, received, run, until
+from trials.network import (HOST, SENDER, SOURCE, THREE, Failed, all_came, ended, first_after, goes_on, inside, ip,
+                            received, run, until)
 
 if TYPE_CHECKING:
     from collections.abc import Callable
 
     from trials.network import Network
-
-
-# The neighbours that FRR is.
-THREE = {"10.2.0.1", "10.3.0.1", "10.7.0.2"}
 
 
 def no_address_at_start(net: Network) -> None:
@@ -73,14 +70,17 @@ def without_services(net: Network) -> None:
         raise Failed(f"without its VRF it says {line}")
 
 
-def flowing(net: Network, group: str, count: int) -> tuple[subprocess.Popen[str], subprocess.Popen[str]]:
-    """The receiver and the sender of so many packets, 100 a second, once the kernel forwards them."""
+def flowing(
+    net: Network, group: str, count: int, rate: int = 100, seconds: int = 35
+) -> tuple[subprocess.Popen[str], subprocess.Popen[str]]:
+    """The receiver and the sender of so many packets, once the kernel forwards them. It waits for so many seconds more
+    than they take."""
     warm = net.receive("hosts", group, HOST, 30, 20)
     time.sleep(2)
     net.send("source", group, SOURCE, 30, 10).wait()
-    receiver = net.receive("hosts", group, HOST, count, 35 + count // 100)
+    receiver = net.receive("hosts", group, HOST, count, seconds + count // rate)
     ended(warm)
-    sender = net.send("source", group, SOURCE, count, 100)
+    sender = net.send("source", group, SOURCE, count, rate)
     until("the kernel forwards", 15, lambda: net.entry(SOURCE, group)["outgoing"] == ["to-hosts"])
     return receiver, sender
 
@@ -98,10 +98,7 @@ def late_address(net: Network) -> str:
     until("the router has learned", 30, lambda: net.entry(SOURCE, group)["forwarding"] == "kernel")
     until("first is a neighbour there", 40, lambda: "10.7.0.2" in net.neighbours())
     sender.wait()
-    came, of, twice = received(receiver)
-    if came < of:
-        raise Failed(f"{came} of {of} came, {twice} twice")
-    return f"{came} of {of} came, {twice} twice"
+    return all_came(*received(receiver))
 
 
 def interface_that_comes(net: Network) -> None:
@@ -130,45 +127,32 @@ def settings_under_a_stream(net: Network) -> str:
     net.reload("limit = 30000\n" + net.settings.replace("query_interval = 20", "query_interval = 30"))
     if net.entry(SOURCE, group)["forwarding"] != "kernel" or net.neighbours() < THREE:
         raise Failed("it doesn't go on with what it knew")
+    return came_before_reload(net, receiver, sender)
+
+
+def came_before_reload(net: Network, receiver: subprocess.Popen[str], sender: subprocess.Popen[str]) -> str:
+    """All came, and the router has its settings of before again."""
     sender.wait()
-    came, of, twice = received(receiver)
+    counts = received(receiver)
     net.reload(net.settings)
-    if came < of:
-        raise Failed(f"{came} of {of} came, {twice} twice")
-    return f"{came} of {of} came, {twice} twice"
+    return all_came(*counts)
 
 
 def shorter_interval_under_a_stream(net: Network) -> str:
     """SIGHUP takes a query interval of 4 s in place of 20, and a stream of 100 packets a second loses none in 45 s"""
     receiver, sender = flowing(net, "239.1.11.9", 4500)
     net.reload(net.settings.replace("query_interval = 20", "query_interval = 4"))
-    sender.wait()
-    came, of, twice = received(receiver)
-    net.reload(net.settings)
-    if came < of:
-        raise Failed(f"{came} of {of} came, {twice} twice")
-    return f"{came} of {of} came, {twice} twice"
+    return came_before_reload(net, receiver, sender)
 
 
 def settings_at_the_rp(net: Network) -> str:
     """nor does one of which the router is the RP"""
     group = "239.2.11.4"
-    warm = net.receive("hosts", group, HOST, 30, 20)
-    time.sleep(2)
-    net.send("source", group, SOURCE, 30, 10).wait()
-    receiver = net.receive("hosts", group, HOST, 2600, 150)
-    ended(warm)
-    sender = net.send("source", group, SOURCE, 2600, 20)
-    until("the kernel forwards", 15, lambda: net.entry(SOURCE, group)["outgoing"] == ["to-hosts"])
+    receiver, sender = flowing(net, group, 2600, 20, 20)
     net.reload("limit = 30000\n" + net.settings)
     if net.entry(SOURCE, group)["forwarding"] != "kernel":
         raise Failed("it doesn't go on with what it knew")
-    sender.wait()
-    came, of, twice = received(receiver)
-    net.reload(net.settings)
-    if came < of:
-        raise Failed(f"{came} of {of} came, {twice} twice")
-    return f"{came} of {of} came, {twice} twice"
+    return came_before_reload(net, receiver, sender)
 
 
 def soon(what: str, holds: Callable[[], bool]) -> None:

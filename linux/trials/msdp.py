@@ -8,14 +8,11 @@ own-rp; frr-rp is DR and RP itself. The side with the higher address listens: th
 from __future__ import annotations
 
 import json
-import os
-import shutil
-import signal
 import subprocess
 import time
 from typing import TYPE_CHECKING
 
-from trials.network import AS_SERVICE, NAMES, NOBODY, PIMD, Failed, inside, ip, run, until
+from trials.network import AS_SERVICE, PIMD, Failed, inside, run, until
 
 if TYPE_CHECKING:
     from typing import Any
@@ -49,26 +46,22 @@ class Domains:
         }
 
     def lay_out(self) -> None:
+        self.net.add(self.routes)
         for place in self.routes:
-            run("ip", "netns", "add", NAMES[place])
-            ip(place, "link", "set", "lo", "up")
             forwards = place in ("west", "own-rp", "frr-rp")
             run(*inside(place, "sysctl", "-qw", f"net.ipv4.ip_forward={int(forwards)}"))
-        for link in [("west-host", f"{WEST_HOST}/24", "west", "10.71.0.1/24"),
-                     ("west", "10.72.0.1/24", "own-rp", "10.72.0.2/24"),
-                     ("own-rp", f"{self.own}/24", "frr-rp", f"{self.other}/24"),
-                     ("frr-rp", "10.74.0.1/24", "east-host", f"{EAST_HOST}/24")]:
-            self.net.connect(*link)
-        for place, routes in self.routes.items():
-            for route in routes:
-                ip(place, "route", "add", *route.split())
+        links = [("west-host", f"{WEST_HOST}/24", "west", "10.71.0.1/24"),
+                 ("west", "10.72.0.1/24", "own-rp", "10.72.0.2/24"),
+                 ("own-rp", f"{self.own}/24", "frr-rp", f"{self.other}/24"),
+                 ("frr-rp", "10.74.0.1/24", "east-host", f"{EAST_HOST}/24")]
+        self.net.connect_all(links, self.routes)
 
-    def settings(self, place: str, more: str) -> None:
+    def settings(self, place: str, more: str) -> str:
         ports = ("west-host", "own-rp") if place == "west" else ("west", "frr-rp")
         text = "".join(f'[[interface]]\nname = "to-{port}"\n\n' for port in ports)
         control = f'log = "debug"\nsocket = "{self.control(place)}"\n\n'
         rp = f'[[rp]]\ngroups = "{GROUPS}"\naddress = "{self.own}"\n\n'
-        (self.net.room / f"{place}.toml").write_text(control + text + rp + more)
+        return control + text + rp + more
 
     def peer(self) -> str:
         mesh = f'mesh = "{self.mesh}"\n' if self.mesh else ""
@@ -78,16 +71,7 @@ class Domains:
         return self.net.room / place / "control"
 
     def start_router(self, place: str, more: str = "") -> None:
-        room = self.net.room
-        own, program = room / place, room / "viqeshord"
-        own.mkdir(exist_ok=True)
-        os.chown(own, NOBODY, NOBODY)
-        if not program.exists():
-            shutil.copy(self.net.built / "viqeshord", program)
-        self.settings(place, more)
-        with open(room / f"{place}.log", "a") as log:
-            words = [*WITH_PORT, program, "run", room / f"{place}.toml"]
-            self.routers[place] = self.net.start(place, *words, stderr=log)
+        self.routers[place] = self.net.start_another(place, self.settings(place, more), rights=WITH_PORT)
 
     def start(self) -> None:
         self.lay_out()
@@ -116,18 +100,11 @@ class Domains:
         return {group: row["rp"] for group, rows in told.items() for row in rows.values()}
 
     def reload(self, more: str) -> None:
-        log, taken = self.net.room / "own-rp.log", "the settings are read anew"
-        before = log.read_text().count(taken)
-        self.settings("own-rp", more)
-        self.routers["own-rp"].send_signal(signal.SIGHUP)
-        until("the settings are taken", 30, lambda: log.read_text().count(taken) > before)
+        settings = self.settings("own-rp", more)
+        self.net.read_anew("own-rp", self.routers["own-rp"], settings, "the settings are taken")
 
     def end(self) -> None:
-        for one in self.net.running[self.before:]:
-            if one.poll() is None:
-                one.terminate()
-                one.wait()
-        self.net.delete(self.routes)
+        self.net.clear(self.before, self.routes)
 
 
 def streams(domains: Domains) -> list[subprocess.Popen[str]]:

@@ -5,7 +5,8 @@ import shutil
 import signal
 import subprocess
 import time
-from collections.abc import Callable, Iterable
+from collections.abc import Callable, Iterable, Iterator
+from contextlib import contextmanager
 from pathlib import Path
 from typing import Any
 
@@ -61,8 +62,13 @@ query_response = 2.0
 
 """ + "".join(f'[[interface]]\nname = "to-{port}"\n\n' for port in ("first", "second", "hosts", "lan")) + "".join(
     f'[[rp]]\ngroups = "{groups}"\naddress = "{address}"\n\n' for groups, address in RPS)
+# Each end with its address; None of a port of the bridge.
+Link = tuple[str, str, str, str | None]
+GOES_ON = "the router goes on where the one before it was"
 PRIORITY = -15
 SOURCE, HOST = "10.1.0.50", "10.5.0.77"
+# The neighbours that FRR is.
+THREE = {"10.2.0.1", "10.3.0.1", "10.7.0.2"}
 # What FRR logs where logs are kept.
 DEBUGS = ("debug pim packets", "debug pim events", "debug mroute", "debug pim trace")
 # With the rights of the unit file alone.
@@ -157,30 +163,39 @@ class Network:
                 ip(place, "link", "set", port, "master", "bridge")
             ip(place, "link", "set", port, "up")
 
+    @staticmethod
+    def add(places: Iterable[str]) -> None:
+        for place in places:
+            run("ip", "netns", "add", NAMES[place])
+            ip(place, "link", "set", "lo", "up")
+
+    def connect_all(self, links: Iterable[Link], routes: dict[str, list[str]], forwards: Iterable[str] = ()) -> None:
+        """Links, and then routes and who forwards."""
+        for link in links:
+            self.connect(*link)
+        for place, each in routes.items():
+            for route in each:
+                ip(place, "route", "add", *route.split())
+        for place in forwards:
+            run(*inside(place, "sysctl", "-qw", "net.ipv4.ip_forward=1"))
+
     def lay_out(self) -> None:
-        for name in map(NAMES.get, PLACES):
-            run("ip", "netns", "add", name)
-            run("ip", "-n", name, "link", "set", "lo", "up")
+        self.add(PLACES)
         ip("lan", "link", "add", "bridge", "type", "bridge", "mcast_snooping", "0")
         ip("lan", "link", "set", "bridge", "up")
-        for link in LINKS:
-            self.connect(*link)
-        for place, routes in ROUTES.items():
-            for route in routes:
-                ip(place, "route", "add", *route.split())
-        for place in ("first", "second", "router"):
-            run(*inside(place, "sysctl", "-qw", "net.ipv4.ip_forward=1"))
+        self.connect_all(LINKS, ROUTES, ("first", "second", "router"))
         ip("hosts", "address", "add", "10.5.0.50/24", "dev", "to-router")
         run(*inside("hosts", "sysctl", "-qw", "net.ipv4.conf.all.force_igmp_version=3"))
         run(*inside("viewer", "sysctl", "-qw", "net.ipv4.conf.all.force_igmp_version=3"))
 
-    def clear(self) -> None:
-        for one in reversed(self.running):
+    def clear(self, first: int = 0, places: Iterable[str] = NAMES) -> None:
+        """Ends what runs, from one process on, and deletes places."""
+        for one in reversed(self.running[first:]):
             if one.poll() is None:
                 one.terminate()
-        for one in self.running:
+        for one in self.running[first:]:
             one.wait()
-        self.delete(NAMES)
+        self.delete(places)
 
     def delete(self, places: Iterable[str]) -> None:
         for place in places:
@@ -229,6 +244,12 @@ class Network:
         words = inside(place, *vtysh, "--vty_socket", self.room / place, *each)
         return subprocess.run(words, capture_output=True, text=True).stdout
 
+    def learned_by_frr(self, place: str) -> dict[str, str]:
+        """The RPs that FRR learned of Bootstraps, by their ranges."""
+        said = self.frr(place, "show ip pim rp-info json")
+        rows = [(rp, row) for rp, found in (json.loads(said) if said.strip() else {}).items() for row in found]
+        return {row["group"]: rp for rp, row in rows if row["source"] == "BSR"}
+
     def start_router(self, more: str = "", policy: str = "", environment: Iterable[str] = ()) -> None:
         self.settings = more + SETTINGS.format(room=self.room)
         self.settings = self.with_policy(policy)
@@ -242,6 +263,36 @@ class Network:
             self.router = self.start("router", *AS_SERVICE, *words, stderr=log)
         until("the router answers", 10, lambda: self.show("interfaces"))
 
+    def start_another(
+        self, place: str, settings: str, own: str | None = None, rights: Iterable[str] = AS_SERVICE
+    ) -> subprocess.Popen[str]:
+        """Another router, at a place: it has a folder of its own, of this name if one is given."""
+        folder, program, file = self.room / (own or place), self.room / "viqeshord", self.room / f"{place}.toml"
+        folder.mkdir(exist_ok=True)
+        os.chown(folder, NOBODY, NOBODY)
+        if not program.exists():
+            shutil.copy(self.built / "viqeshord", program)
+        file.write_text(settings)
+        with open(self.room / f"{place}.log", "a") as log:
+            return self.start(place, *rights, program, "run", file, stderr=log)
+
+    def says(self, line: str, act: Callable[[], object], what: str, seconds: float = 30, place: str = "router") -> None:
+        """Waits until the router, or that of another place, says something once more, once something is done."""
+        log = self.room / f"{place}.log"
+        before = log.read_text().count(line)
+        act()
+        until(what, seconds, lambda: log.read_text().count(line) > before)
+
+    def put_new(self) -> None:
+        """The program's file is another one."""
+        shutil.copy(self.room / "viqeshord", self.room / "viqeshord.new")
+        os.rename(self.room / "viqeshord.new", self.room / "viqeshord")
+
+    def upgrade(self, router: subprocess.Popen[str], what: str, place: str = "router") -> None:
+        """Another program takes a router's place."""
+        self.put_new()
+        self.says(GOES_ON, lambda: router.send_signal(signal.SIGUSR2), what, place=place)
+
     def stop_router(self) -> None:
         self.router.send_signal(signal.SIGTERM)
         self.router.wait(10)
@@ -252,10 +303,16 @@ class Network:
 
     def reload(self, settings: str) -> None:
         """Other settings, by SIGHUP, once the router has taken them."""
-        before = self.log().count("the settings are read anew")
-        (self.room / "router.toml").write_text(settings)
-        self.router.send_signal(signal.SIGHUP)
-        until("the settings are taken", 10, lambda: self.log().count("the settings are read anew") > before)
+        self.read_anew("router", self.router, settings, "the settings are taken", 10)
+
+    def read_anew(
+        self, place: str, router: subprocess.Popen[str], settings: str, what: str, seconds: float = 30
+    ) -> None:
+        def act() -> None:
+            (self.room / f"{place}.toml").write_text(settings)
+            router.send_signal(signal.SIGHUP)
+
+        self.says("the settings are read anew", act, what, seconds, place)
 
     def with_policy(self, lines: str) -> str:
         """The settings that the router started with, and some lines of `[policy]`."""
@@ -336,10 +393,33 @@ def first_after(receiver: subprocess.Popen[str]) -> int | None:
     return None if words[at].startswith("never") else int(words[at + 1])
 
 
-def longest_gap(receiver: subprocess.Popen[str]) -> int:
-    """In ms, between two packets that came one after the other."""
+def came_with_gap(receiver: subprocess.Popen[str]) -> tuple[int, int, int]:
+    """How many came, of how many, and the longest time between two, in ms."""
     words = receiver.communicate()[0].split()
-    return int(words[words.index("gap") + 1])
+    return int(words[1]), int(words[3].rstrip(",")), int(words[words.index("gap") + 1])
+
+
+def longest_gap(receiver: subprocess.Popen[str]) -> int:
+    return came_with_gap(receiver)[2]
+
+
+def all_came(came: int, of: int, twice: int, may_lack: int = 0) -> str:
+    """That all came, but for so many; what is to be said of them."""
+    said = f"{came} of {of} came, {twice} twice"
+    if came < of - may_lack:
+        raise Failed(said)
+    return said
+
+
+@contextmanager
+def stream(net: Network, group: str, seconds: int, count: int, rate: int = 10, most: int = 100_000) -> Iterator[None]:
+    """A stream that the kernel forwards to the router's host."""
+    receiver = net.receive("hosts", group, HOST, most, seconds)
+    sender = net.send("source", group, SOURCE, count, rate)
+    until("the kernel forwards", 20, lambda: net.entry(SOURCE, group)["outgoing"] == ["to-hosts"])
+    yield
+    ended(sender)
+    ended(receiver)
 
 
 def goes_on(net: Network, group: str, when: str) -> None:

@@ -1,15 +1,12 @@
 """Hosts and routers of IGMPv1 and IGMPv2, on the LAN of the router and FRR."""
 from __future__ import annotations
 
-import os
 import re
-import shutil
-import signal
 import subprocess
 import time
 from typing import TYPE_CHECKING
 
-from trials.network import SOURCE, Failed, ended, goes_on, inside, run, until
+from trials.network import SOURCE, Failed, came_with_gap, ended, goes_on, inside, run, until
 
 if TYPE_CHECKING:
     from trials.network import Network
@@ -63,8 +60,7 @@ def beside_a_newer(net: Network, group: str, version: int) -> tuple[str, subproc
     newer = net.receive("asker", group, NEWER, 100_000, 60)
     time.sleep(2)
     ended(newer)
-    words = receiver.communicate()[0].split()
-    came, gap = int(words[1]), int(words[words.index("gap") + 1])
+    came, _, gap = came_with_gap(receiver)
     if came < FEWEST or gap > LONGEST_GAP:
         raise Failed(f"{came} packets came, the longest gap was {gap} ms")
     if not is_in(net, group, f"IGMPv{version}"):
@@ -105,16 +101,6 @@ def host_of_version_one(net: Network) -> str:
     return f"{said}; the stream ended {gone:.1f} s after it was gone"
 
 
-def upgrade(net: Network) -> None:
-    """Another program takes the router's place."""
-    goes = "the router goes on where the one before it was"
-    count = net.log().count(goes)
-    shutil.copy(net.room / "viqeshord", net.room / "viqeshord.new")
-    os.rename(net.room / "viqeshord.new", net.room / "viqeshord")
-    net.router.send_signal(signal.SIGUSR2)
-    until("the other one goes on", 30, lambda: net.log().count(goes) > count)
-
-
 def host_over_an_upgrade(net: Network) -> str:
     """over an upgrade a host of IGMPv2 keeps its stream, and its mode: one of IGMPv3 leaves its group right after it"""
     group = "239.2.15.6"
@@ -122,13 +108,12 @@ def host_over_an_upgrade(net: Network) -> str:
     newer = net.receive("asker", group, NEWER, 100_000, 60)
     receiver = net.receive("older", group, OLDER, 3_000, 25)
     time.sleep(2)
-    upgrade(net)
+    net.upgrade(net.router, "the other one goes on")
     after = row(net, group)
     if after["version"] != "IGMPv2" or not 0 < after["older_expires_seconds"] <= PRESENT:
         raise Failed(f"the router shows {after}")
     ended(newer)
-    words = receiver.communicate()[0].split()
-    came, gap = int(words[1]), int(words[words.index("gap") + 1])
+    came, _, gap = came_with_gap(receiver)
     ended(keeps)
     ended(sender)
     if came < FEWEST or gap > LONGEST_GAP:

@@ -5,9 +5,8 @@ import time
 from typing import TYPE_CHECKING
 
 from trials import liveness
-from trials.network import HOST, SOURCE, Failed, ended, first_after, ip, received, until
+from trials.network import HOST, SOURCE, THREE, Failed, ended, first_after, ip, received, until
 from trials.streams import FEWER_BYTES, SOON
-from trials.upgrade import THREE
 
 if TYPE_CHECKING:
     from collections.abc import Callable

@@ -6,7 +6,8 @@ import sys
 import time
 from typing import TYPE_CHECKING
 
-from trials.network import HOST, SENDER, SOURCE, Failed, ended, first_after, goes_on, inside, received, until
+from trials.network import (HOST, SENDER, SOURCE, Failed, ended, first_after, goes_on, inside, received, stream,
+                            until)
 
 if TYPE_CHECKING:
     from trials.network import Network
@@ -95,20 +96,16 @@ def flood_of_older_groups(net: Network) -> str:
 def flood_of_sources(net: Network) -> str:
     """one that sends to 40,000 groups, too: a stream of another interface goes on, and a new one begins"""
     group = "239.2.7.1"
-    receiver = net.receive("hosts", group, HOST, 10_000, 120)
-    sender = net.send("source", group, SOURCE, 10_000, 50)
-    until("the kernel forwards", 20, lambda: net.entry(SOURCE, group)["outgoing"] == ["to-hosts"])
-    send(net, "hosts", "to-router", "10.5.0.50", "sources", 40_000)
-    until("the flood is refused", 30, lambda: net.refused("max_streams") > 0)
-    goes_on(net, group, "under the flood")
-    another = net.receive("hosts", "239.2.7.2", HOST, 40, 20)
-    time.sleep(2)
-    net.send("source", "239.2.7.2", SOURCE, 40, 10).wait()
-    came, of, _ = received(another)
-    if came < of - 3:
-        raise Failed(f"the new stream: {came} of {of} came")
-    ended(sender)
-    ended(receiver)
+    with stream(net, group, 120, 10_000, 50, most=10_000):
+        send(net, "hosts", "to-router", "10.5.0.50", "sources", 40_000)
+        until("the flood is refused", 30, lambda: net.refused("max_streams") > 0)
+        goes_on(net, group, "under the flood")
+        another = net.receive("hosts", "239.2.7.2", HOST, 40, 20)
+        time.sleep(2)
+        net.send("source", "239.2.7.2", SOURCE, 40, 10).wait()
+        came, of, _ = received(another)
+        if came < of - 3:
+            raise Failed(f"the new stream: {came} of {of} came")
     said = is_refused(net, "max_streams", "the flood")
     net.stop_router()
     net.start_router()
@@ -143,15 +140,11 @@ def hello_of_a_host(net: Network) -> str:
     """on a passive interface a host's Hello doesn't take the designated router's part, and the stream to it goes on"""
     group = "239.2.7.4"
     net.reload_interface("to-hosts", "passive = true\n")
-    receiver = net.receive("hosts", group, HOST, 1000, 60)
-    sender = net.send("source", group, SOURCE, 400, 10)
-    until("the kernel forwards", 20, lambda: net.entry(SOURCE, group)["outgoing"] == ["to-hosts"])
-    send(net, "hosts", "to-router", "10.5.0.250", "hello", 3)
-    if "10.5.0.250" in net.neighbours():
-        raise Failed("it is a neighbour")
-    goes_on(net, group, "after the Hellos")
-    ended(sender)
-    ended(receiver)
+    with stream(net, group, 60, 400, most=1000):
+        send(net, "hosts", "to-router", "10.5.0.250", "hello", 3)
+        if "10.5.0.250" in net.neighbours():
+            raise Failed("it is a neighbour")
+        goes_on(net, group, "after the Hellos")
     said = is_refused(net, "PIM on a passive interface", "the Hellos")
     net.reload(net.settings)
     return said
@@ -160,20 +153,16 @@ def hello_of_a_host(net: Network) -> str:
 def pim_of_strangers(net: Network) -> str:
     """a Hello of another subnet, and one with TTL 64, make no neighbour, and the stream goes on"""
     group, before = "239.2.7.5", net.neighbours()
-    receiver = net.receive("hosts", group, HOST, 1000, 60)
-    sender = net.send("source", group, SOURCE, 400, 10)
-    until("the kernel forwards", 20, lambda: net.entry(SOURCE, group)["outgoing"] == ["to-hosts"])
-    send(net, "hosts", "to-router", "10.99.0.9", "hello", 2)
-    send(net, "hosts", "to-router", "10.5.0.250", "hello", 2, 64)
-    said = [is_refused(net, cause, "the Hellos") for cause in ("isn't `unnumbered`", "TTL isn't 1")]
-    if net.neighbours() - before:
-        raise Failed(f"neighbours are {net.neighbours()}")
-    goes_on(net, group, "after the Hellos")
-    net.reload_interface("to-hosts", "unnumbered = true\n")
-    send(net, "hosts", "to-router", "10.99.0.9", "hello", 1)
-    until("it is a neighbour of an unnumbered link", 5, lambda: "10.99.0.9" in net.neighbours())
-    ended(sender)
-    ended(receiver)
+    with stream(net, group, 60, 400, most=1000):
+        send(net, "hosts", "to-router", "10.99.0.9", "hello", 2)
+        send(net, "hosts", "to-router", "10.5.0.250", "hello", 2, 64)
+        said = [is_refused(net, cause, "the Hellos") for cause in ("isn't `unnumbered`", "TTL isn't 1")]
+        if net.neighbours() - before:
+            raise Failed(f"neighbours are {net.neighbours()}")
+        goes_on(net, group, "after the Hellos")
+        net.reload_interface("to-hosts", "unnumbered = true\n")
+        send(net, "hosts", "to-router", "10.99.0.9", "hello", 1)
+        until("it is a neighbour of an unnumbered link", 5, lambda: "10.99.0.9" in net.neighbours())
     net.stop_router()
     net.start_router()
     return "; ".join(said)

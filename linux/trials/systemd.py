@@ -7,8 +7,8 @@ import time
 from pathlib import Path
 from typing import TYPE_CHECKING
 
-from trials.network import HERE, HOST, SOURCE, Failed, ended, received, until
-from trials.upgrade import THREE, generation
+from trials.network import HERE, HOST, SOURCE, THREE, Failed, ended, received, until
+from trials.upgrade import generation
 
 if TYPE_CHECKING:
     from collections.abc import Callable

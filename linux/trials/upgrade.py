@@ -11,8 +11,9 @@ import time
 from typing import TYPE_CHECKING
 
 from trials import liveness
-from trials.network import (AS_SERVICE, HERE, HOST, NOBODY, SENDER, SOURCE, Failed, ended, first_after, goes_on, inside,
-                            received, run, until)
+from trials.machine import flowing
+from trials.network import (AS_SERVICE, GOES_ON, HERE, HOST, NOBODY, SENDER, SOURCE, THREE, Failed, all_came, ended,
+                            first_after, goes_on, inside, received, run, until)
 from trials.streams import SOON
 from trials.with_frr import FEWER_BYTES
 
@@ -24,8 +25,6 @@ if TYPE_CHECKING:
 
 MANAGER = HERE / "trials" / "manager.py"
 VIEWER = "10.6.0.77"
-THREE = {"10.2.0.1", "10.3.0.1", "10.7.0.2"}
-GOES_ON = "the router goes on where the one before it was"
 OTHER_SETTINGS = "the router goes on with other settings (the settings differ)"
 # Packets a second, where the machine keeps up; else a tenth.
 RATES = (20_000, 2_000)
@@ -138,6 +137,13 @@ def generation(net: Network) -> list[int]:
     return told()
 
 
+def taken_over(net: Network, act: Callable[[], object], what: str = "the next one goes on") -> float:
+    """After how many seconds the next program goes on."""
+    began = time.monotonic()
+    net.says(GOES_ON, act, what)
+    return time.monotonic() - began
+
+
 def upgrade(net: Network) -> str:
     """SIGUSR2 puts another program in the router's place under two streams: none is lost, none comes twice"""
     until("the router knows three neighbours", 40, lambda: net.neighbours() >= THREE)
@@ -146,13 +152,8 @@ def upgrade(net: Network) -> str:
 
     def act() -> None:
         for _ in range(3):
-            count = net.log().count(GOES_ON)
-            shutil.copy(net.room / "viqeshord", net.room / "viqeshord.new")
-            os.rename(net.room / "viqeshord.new", net.room / "viqeshord")
-            began = time.monotonic()
-            net.router.send_signal(signal.SIGUSR2)
-            until("the other one goes on", 30, lambda: net.log().count(GOES_ON) > count)
-            times.append(time.monotonic() - began)
+            net.put_new()
+            times.append(taken_over(net, lambda: net.router.send_signal(signal.SIGUSR2), "the other one goes on"))
             until("it answers", 10, lambda: net.neighbours() >= THREE)
 
     said = at_a_rate(net, 1, act)
@@ -224,9 +225,8 @@ def session_over(net: Network, number: int) -> str:
         net.reload_interface("to-lan", "bfd = true\n")
         liveness.came_up(net)
         time.sleep(2)
-        before, count = liveness.peer(net), net.log().count(GOES_ON)
-        net.router.send_signal(number)
-        until("the other one goes on", 30, lambda: net.log().count(GOES_ON) > count)
+        before = liveness.peer(net)
+        net.says(GOES_ON, lambda: net.router.send_signal(number), "the other one goes on")
         time.sleep(3)
         after = liveness.peer(net)
     finally:
@@ -242,26 +242,17 @@ def session_over(net: Network, number: int) -> str:
 def another_limit(net: Network) -> str:
     """an upgrade with another limit goes on with what the router knew, and a stream loses nothing"""
     group = "239.1.20.77"
-    warm = net.receive("hosts", group, HOST, 30, 20)
-    time.sleep(2)
-    net.send("source", group, SOURCE, 30, 10).wait()
-    receiver = net.receive("hosts", group, HOST, 2500, 60)
-    ended(warm)
-    sender = net.send("source", group, SOURCE, 2500, 100)
-    until("the kernel forwards", 15, lambda: net.entry(SOURCE, group)["outgoing"] == ["to-hosts"])
-    count, anew = net.log().count(OTHER_SETTINGS), net.log().count("the router is made anew")
+    receiver, sender = flowing(net, group, 2500)
+    anew = net.log().count("the router is made anew")
     (net.room / "router.toml").write_text("limit = 30000\n" + net.settings)
-    net.router.send_signal(signal.SIGUSR2)
-    until("it is said", 20, lambda: net.log().count(OTHER_SETTINGS) > count)
+    net.says(OTHER_SETTINGS, lambda: net.router.send_signal(signal.SIGUSR2), "it is said", 20)
     if net.entry(SOURCE, group)["forwarding"] != "kernel" or net.log().count("the router is made anew") > anew:
         raise Failed("it doesn't go on with what it knew")
     sender.wait()
-    came, of, twice = received(receiver)
+    counts = received(receiver)
     net.reload(net.settings)
     until("the router knows three neighbours", 40, lambda: net.neighbours() >= THREE)
-    if came < of:
-        raise Failed(f"{came} of {of} came, {twice} twice")
-    return f"{came} of {of} came, {twice} twice"
+    return all_came(*counts)
 
 
 def managed(net: Network, seconds: float) -> Path:
@@ -295,11 +286,7 @@ def killed(net: Network) -> str:
         for _ in range(2):
             # The last state was saved by now.
             time.sleep(3)
-            count = net.log().count(GOES_ON)
-            began = time.monotonic()
-            os.kill(the_router(net), signal.SIGKILL)
-            until("the next one goes on", 30, lambda: net.log().count(GOES_ON) > count)
-            times.append(time.monotonic() - began)
+            times.append(taken_over(net, lambda: os.kill(the_router(net), signal.SIGKILL)))
 
     said = at_a_rate(net, 11, act)
     if generation(net) != before:
@@ -318,11 +305,7 @@ def restarted(net: Network) -> str:
 
     def act() -> None:
         for _ in range(3):
-            count = net.log().count(GOES_ON)
-            began = time.monotonic()
-            net.router.send_signal(signal.SIGUSR1)
-            until("the next one goes on", 30, lambda: net.log().count(GOES_ON) > count)
-            times.append(time.monotonic() - began)
+            times.append(taken_over(net, lambda: net.router.send_signal(signal.SIGUSR1)))
             until("it answers", 10, lambda: net.neighbours() >= THREE)
 
     said = at_a_rate(net, 31, act)
@@ -370,9 +353,7 @@ def killed_with_many_groups(net: Network) -> str:
         # They stay for twice the query interval alone.
         report()
         time.sleep(3 + 0.7 * number)
-        count = net.log().count(GOES_ON)
-        os.kill(the_router(net), signal.SIGKILL)
-        until("the next one goes on", 30, lambda: net.log().count(GOES_ON) > count)
+        net.says(GOES_ON, lambda: os.kill(the_router(net), signal.SIGKILL), "the next one goes on")
         ages.append(net.log().rsplit(GOES_ON, 1)[1].split(" ms later")[0].split()[-1])
         until("it has the groups", 20, lambda: len(net.show("igmp")) >= groups)
     return f"{streams.came()}; it went on with states {', '.join(ages)} ms old"

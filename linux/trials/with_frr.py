@@ -8,8 +8,8 @@ import sys
 import time
 from typing import TYPE_CHECKING, Any
 
-from trials.network import (ASKER, DEBUGS, HOST, RPS, SENDER, SOURCE, Failed, ended, goes_on, inside, ip, received, run,
-                            until, used_for)
+from trials.network import (ASKER, DEBUGS, HOST, RPS, SENDER, SOURCE, Failed, all_came, ended, goes_on, inside, ip,
+                            received, run, stream, until, used_for)
 
 if TYPE_CHECKING:
     from trials.network import Network
@@ -217,36 +217,28 @@ def checksum(net: Network) -> str:
 def link_down(net: Network) -> None:
     """an interface of the router that goes down and comes back costs that link alone"""
     group = "239.2.1.7"
-    receiver = net.receive("hosts", group, HOST, 100_000, 90)
-    sender = net.send("source", group, SOURCE, 600, 10)
-    until("the kernel forwards", 20, lambda: net.entry(SOURCE, group)["outgoing"] == ["to-hosts"])
-    ip("router", "link", "set", "to-second", "down")
-    until("second is gone", 10, lambda: "10.3.0.1" not in net.neighbours())
-    goes_on(net, group, "while the link is down")
-    ip("router", "link", "set", "to-second", "up")
-    ip("router", "route", "replace", "10.4.0.0/24", "via", "10.3.0.1")
-    ip("router", "route", "replace", "10.6.0.0/24", "via", "10.3.0.1")
-    until("second is back", 30, lambda: "10.3.0.1" in net.neighbours())
-    goes_on(net, group, "after it came back")
-    ended(sender)
-    ended(receiver)
+    with stream(net, group, 90, 600):
+        ip("router", "link", "set", "to-second", "down")
+        until("second is gone", 10, lambda: "10.3.0.1" not in net.neighbours())
+        goes_on(net, group, "while the link is down")
+        ip("router", "link", "set", "to-second", "up")
+        ip("router", "route", "replace", "10.4.0.0/24", "via", "10.3.0.1")
+        ip("router", "route", "replace", "10.6.0.0/24", "via", "10.3.0.1")
+        until("second is back", 30, lambda: "10.3.0.1" in net.neighbours())
+        goes_on(net, group, "after it came back")
 
 
 def link_deleted(net: Network) -> None:
     """one that is deleted and made anew, too"""
     group = "239.2.1.8"
-    receiver = net.receive("hosts", group, HOST, 100_000, 120)
-    sender = net.send("source", group, SOURCE, 800, 10)
-    until("the kernel forwards", 20, lambda: net.entry(SOURCE, group)["outgoing"] == ["to-hosts"])
-    ip("router", "link", "delete", "to-lan")
-    is_gone = lambda: bool(net.interface("to-lan")["why_down"])
-    until("it is said to be gone", 10, is_gone)
-    goes_on(net, group, "without it")
-    net.connect("router", "10.7.0.3/24", "lan", None)
-    until("first is back there", 40, lambda: "10.7.0.2" in net.neighbours())
-    goes_on(net, group, "with it anew")
-    ended(sender)
-    ended(receiver)
+    with stream(net, group, 120, 800):
+        ip("router", "link", "delete", "to-lan")
+        is_gone = lambda: bool(net.interface("to-lan")["why_down"])
+        until("it is said to be gone", 10, is_gone)
+        goes_on(net, group, "without it")
+        net.connect("router", "10.7.0.3/24", "lan", None)
+        until("first is back there", 40, lambda: "10.7.0.2" in net.neighbours())
+        goes_on(net, group, "with it anew")
 
 
 def another_address(net: Network) -> str:
@@ -263,43 +255,32 @@ def another_address(net: Network) -> str:
         until("the router has learned", 30, lambda: net.entry(SOURCE, group)["forwarding"] == "kernel")
     until("first is back there", 40, lambda: "10.7.0.2" in net.neighbours())
     sender.wait()
-    came, of, twice = received(receiver)
-    if came < of - 3:
-        raise Failed(f"{came} of {of} came, {twice} twice")
-    return f"{came} of {of} came, {twice} twice"
+    return all_came(*received(receiver), 3)
 
 
 def restart_of_router(net: Network) -> None:
     """the router says goodbye, comes again, and the stream with it"""
     group = "239.1.1.9"
-    receiver = net.receive("hosts", group, HOST, 100_000, 120)
-    sender = net.send("source", group, SOURCE, 800, 10)
-    until("the kernel forwards", 20, lambda: net.entry(SOURCE, group)["outgoing"] == ["to-hosts"])
-    net.router.send_signal(signal.SIGTERM)
-    if net.router.wait(10):
-        raise Failed(f"it ended with {net.router.returncode}")
-    until("first has heard the goodbye", 3, lambda: "10.2.0.2" not in net.frr("first", "show ip pim neighbor"))
-    net.start_router()
-    until("the kernel forwards again", 60, lambda: net.entry(SOURCE, group)["outgoing"] == ["to-hosts"])
-    goes_on(net, group, "after it came again")
-    ended(sender)
-    ended(receiver)
+    with stream(net, group, 120, 800):
+        net.router.send_signal(signal.SIGTERM)
+        if net.router.wait(10):
+            raise Failed(f"it ended with {net.router.returncode}")
+        until("first has heard the goodbye", 3, lambda: "10.2.0.2" not in net.frr("first", "show ip pim neighbor"))
+        net.start_router()
+        until("the kernel forwards again", 60, lambda: net.entry(SOURCE, group)["outgoing"] == ["to-hosts"])
+        goes_on(net, group, "after it came again")
 
 
 def restart_of_frr(net: Network) -> None:
     """FRR's pimd is killed and comes again, and the stream with it"""
     group = "239.1.1.10"
-    receiver = net.receive("hosts", group, HOST, 100_000, 150)
-    sender = net.send("source", group, SOURCE, 1200, 10)
-    until("the kernel forwards", 20, lambda: net.entry(SOURCE, group)["outgoing"] == ["to-hosts"])
-    net.pimd["first"].kill()
-    time.sleep(2)
-    net.start_pimd("first")
-    until("first has the Join again", 40, lambda: group in net.frr("first", "show ip pim join"))
-    until("first knows the router", 20, lambda: "10.2.0.2" in net.frr("first", "show ip pim neighbor"))
-    goes_on(net, group, "after it came again")
-    ended(sender)
-    ended(receiver)
+    with stream(net, group, 150, 1200):
+        net.pimd["first"].kill()
+        time.sleep(2)
+        net.start_pimd("first")
+        until("first has the Join again", 40, lambda: group in net.frr("first", "show ip pim join"))
+        until("first knows the router", 20, lambda: "10.2.0.2" in net.frr("first", "show ip pim neighbor"))
+        goes_on(net, group, "after it came again")
 
 
 def holdtime_at_first(net: Network) -> int | None:

@@ -11,6 +11,8 @@ WIDE = "239.0.0.0/8"
 SENT = {
     # Both send one after 5 s; c2, of more weight, again 10 s later.
     "the_lower_yields": [(C1, 10, 1, {}), (C2, 20, 1, {}), (C2, 20, 2, {})],
+    # Without a priority c1 has 64; again 10 s later.
+    "usual_priority": [(C1, 64, 1, {}), (C2, 63, 1, {}), (C1, 64, 2, {})],
     # c1 takes over: its second.
     "take_over": [(C1, 10, 1, {}), (C2, 20, 1, {}), (C1, 10, 2, {})],
     # c1 says nothing at 5 s, and at 15 s both RPs, r2 first, since it heard r2 at 5 s and itself at 6 s.
@@ -32,6 +34,8 @@ SENT = {
 KNOWN = {
     "the_lower_yields": {"c1": ["B 10.0.0.2 20 145000", "E candidate 145000"],
                          "c2": ["B 10.0.0.2 20 145000", "E elected 75000"]},
+    "usual_priority": {"c1": ["B 10.0.0.1 64 145000", "E elected 75000"],
+                       "c2": ["B 10.0.0.1 64 145000", "E candidate 145000"]},
     # 135 s, and 5 + 6.75 + 1.922 s: 148,672 ms, and then 60 and 130 s.
     "take_over": {"c1": ["B 10.0.0.1 10 278672", "E elected 208672"], "r3": ["B 10.0.0.1 10 278672"]},
     # r2 told c1 at 5 s, for 150 s, and c1 itself at 6, 7 and 8 s; said at 15 s, for 150 s.

@@ -121,9 +121,7 @@ def paths():
 
 class Changed(unittest.TestCase):
     def setUp(self):
-        folder = tempfile.TemporaryDirectory()
-        self.addCleanup(folder.cleanup)
-        self.file = Path(folder.name) / "changed.toml"
+        self.file = Path(self.enterContext(tempfile.TemporaryDirectory())) / "changed.toml"
 
     def through(self, text, at, is_page):
         """A scenario through all tools; what `why` tells."""

@@ -149,9 +149,7 @@ def classic(kind, frames, order="<", magic=0xA1B2C3D4, ticks=10**6):
 
 class Files(unittest.TestCase):
     def setUp(self):
-        folder = tempfile.TemporaryDirectory()
-        self.addCleanup(folder.cleanup)
-        self.path = Path(folder.name) / "run.pcap"
+        self.path = Path(self.enterContext(tempfile.TemporaryDirectory())) / "run.pcap"
 
     def compared(self, content, *words):
         self.path.write_bytes(content)

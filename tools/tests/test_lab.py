@@ -541,9 +541,7 @@ camera, viewer = net.host("camera", "west"), net.host("viewer", "east")
 
 class Mistakes(unittest.TestCase):
     def setUp(self):
-        folder = tempfile.TemporaryDirectory()
-        self.addCleanup(folder.cleanup)
-        self.path = Path(folder.name) / "net.py"
+        self.path = Path(self.enterContext(tempfile.TemporaryDirectory())) / "net.py"
 
     def ran(self, text, *words):
         self.path.write_text(text)

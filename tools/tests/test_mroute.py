@@ -25,9 +25,7 @@ def outgoing(entry):
 
 class Shown(unittest.TestCase):
     def setUp(self):
-        folder = tempfile.TemporaryDirectory()
-        self.addCleanup(folder.cleanup)
-        self.path = Path(folder.name) / "net.toml"
+        self.path = Path(self.enterContext(tempfile.TemporaryDirectory())) / "net.toml"
         self.path.write_text(Network().text())
 
     def view(self, name, *words):

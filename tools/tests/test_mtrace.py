@@ -56,9 +56,7 @@ def answers_of(name, entry):
 
 class Live(unittest.TestCase):
     def setUp(self):
-        folder = tempfile.TemporaryDirectory()
-        self.addCleanup(folder.cleanup)
-        self.room = Path(folder.name)
+        self.room = Path(self.enterContext(tempfile.TemporaryDirectory()))
         (self.room / "viqeshord").write_text(STAND_IN)
 
     def traced(self, entries, names=("r1", "r2", "r3")):
@@ -127,9 +125,7 @@ class Played(unittest.TestCase):
 
 class Commands(unittest.TestCase):
     def setUp(self):
-        folder = tempfile.TemporaryDirectory()
-        self.addCleanup(folder.cleanup)
-        self.path = Path(folder.name) / "net.toml"
+        self.path = Path(self.enterContext(tempfile.TemporaryDirectory())) / "net.toml"
         self.path.write_text(Network().text())
 
     def shown(self, command, name):

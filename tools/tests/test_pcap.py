@@ -92,9 +92,7 @@ def fields(path, *names, where="frame"):
 @unittest.skipUnless(shutil.which("tshark"), "tshark isn't installed")
 class Captured(unittest.TestCase):
     def setUp(self):
-        folder = tempfile.TemporaryDirectory()
-        self.addCleanup(folder.cleanup)
-        self.out = Path(folder.name) / "run.pcapng"
+        self.out = Path(self.enterContext(tempfile.TemporaryDirectory())) / "run.pcapng"
 
     def test_all_stored_scenarios_as_sections_of_one_file(self):
         count = 0

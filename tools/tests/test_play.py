@@ -140,9 +140,7 @@ class Browsed(unittest.TestCase):
     """Each page is opened by a browser, and its console has to stay empty."""
 
     def page_of(self, *tolds):
-        folder = tempfile.TemporaryDirectory(prefix="play-")
-        self.addCleanup(folder.cleanup)
-        path = Path(folder.name) / "page.html"
+        path = Path(self.enterContext(tempfile.TemporaryDirectory(prefix="play-"))) / "page.html"
         path.write_text(playpage.page(tolds))
         return path
 

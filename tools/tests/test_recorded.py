@@ -25,9 +25,7 @@ class Recorded(unittest.TestCase):
         cls.archive, cls.shared = library.archive, library.shared()
 
     def setUp(self):
-        room = tempfile.TemporaryDirectory()
-        self.addCleanup(room.cleanup)
-        self.room = Path(room.name)
+        self.room = Path(self.enterContext(tempfile.TemporaryDirectory()))
         ways = [("10.9.0.0/16", "10.0.0.1", 0, 110, 20)]
         interfaces, ranges = [("10.0.0.2", 24), ("10.0.1.1", 24)], [("224.0.0.0/4", "10.0.0.2")]
         with Router(interfaces, ranges, ways, library=self.shared) as router:

@@ -42,6 +42,7 @@ NOT_RUN = {
     "apt-get install $(cat dev/packages.txt)": "it changes the machine; the part `packages` says what is missing",
     "systemctl restart": "it wants systemd; linux/trials/systemd.py runs it",
 }
+LINK = re.compile(r"\]\((?!\w+:)([^)\s#]+)")
 SPAN = re.compile(r"`((?:\./|tools/|linux/|bin/|viq |apt-get |systemctl )[^`]*)`")
 release = stored.tool("release")
 
@@ -123,6 +124,11 @@ class Unproved(unittest.TestCase):
         for command, ran in RUN.items():
             with self.subTest(command):
                 self.assertTrue(self.shell(ran, folder))
+
+    def test_the_links_of_its_pages_lead_to_files(self):
+        for page in (*self.top.glob("*.md"), *self.top.glob("docs/*.md")):
+            lost = [name for name in LINK.findall(page.read_text()) if not (page.parent / name).exists()]
+            self.assertEqual(lost, [], page.name)
 
     def test_it_says_that_it_is_not_proved(self):
         self.assertIn("NOT a proved release", self.said)

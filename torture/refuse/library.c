@@ -11,36 +11,14 @@
 
 #include <viqeshor/plane.h>
 
+#include "wrapped.h"
+
 enum { MOST_EVENTS = 4096, MOST_ITEMS = 4096, MOST_SOURCES = 64 };
 static const char tables[] = "NGSDAURF";
 
 /* ---- memory */
 
-void *__real_malloc(size_t size);
-void *__real_realloc(void *old, size_t size);
-void __real_free(void *old);
-
-static unsigned long asked, refused_at;
-static long kept;
-
-static int is_refused(void) { return ++asked == refused_at; }
-
-void *__wrap_malloc(size_t size) {
-    void *made = is_refused() ? NULL : __real_malloc(size);
-    kept += made != NULL;
-    return made;
-}
-
-void *__wrap_realloc(void *old, size_t size) {
-    void *made = is_refused() ? NULL : __real_realloc(old, size);
-    kept += made != NULL && old == NULL;
-    return made;
-}
-
-void __wrap_free(void *old) {
-    kept -= old != NULL;
-    __real_free(old);
-}
+static int refuses(void) { return ++asked == refused_at; }
 
 /* ---- what is played */
 

@@ -1,15 +1,9 @@
-/* Has the library that it is linked with, by --wrap=malloc, realloc and free, be refused memory: all of it from one call
- * on to another, or one allocation. It counts allocations, and the blocks that are kept. */
+/* Has a library be refused memory: all of it from one call on to another, or one allocation. */
 #include <stdbool.h>
-#include <stddef.h>
 
-void *__real_malloc(size_t size);
-void *__real_realloc(void *old, size_t size);
-void __real_free(void *old);
+#include "wrapped.h"
 
 static bool is_refused;
-static unsigned long asked, refused_at;
-static long kept;
 
 void refuse_memory(bool refuses) { is_refused = refuses; }
 
@@ -24,21 +18,4 @@ unsigned long allocations(void) { return asked; }
 
 long kept_blocks(void) { return kept; }
 
-static bool refuses(void) { return ++asked == refused_at || is_refused; }
-
-void *__wrap_malloc(size_t size) {
-    void *made = refuses() ? NULL : __real_malloc(size);
-    kept += made != NULL;
-    return made;
-}
-
-void *__wrap_realloc(void *old, size_t size) {
-    void *made = refuses() ? NULL : __real_realloc(old, size);
-    kept += made != NULL && old == NULL;
-    return made;
-}
-
-void __wrap_free(void *old) {
-    kept -= old != NULL;
-    __real_free(old);
-}
+static int refuses(void) { return ++asked == refused_at || is_refused; }

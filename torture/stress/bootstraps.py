@@ -23,7 +23,8 @@ from pathlib import Path
 
 from pimtext.build import sanitized
 from pimtext.build.library import ROOM as LIBRARIES
-from pimtext.build.library import add_choice, chosen
+from pimtext.build.library import chosen
+from stress import forgetting
 from stress.heard import ABOVE, BSR_BELOW, OTHER_BSR, Diverged, Heard
 from stress.plane import REFUSING, WRAPS, counting, refusing
 from stress.rfc5059 import RULES, packet
@@ -80,24 +81,18 @@ def all_trials(library: Path) -> Iterator[bool]:
 
 
 def all_runs(library: Path, asked: argparse.Namespace) -> bool:
-    end, seed, events = time.monotonic() + asked.seconds, asked.seed, 0
-    while time.monotonic() < end:
+    def one(seed: int) -> int | None:
         lines, words = run(library, seed, asked.events)
-        events += len(words)
-        if not told(f"seed {seed}", lines, words):
-            return False
-        seed += 1
-    print(f"{seed - asked.seed} runs, {events} events: no divergence", flush=True)
-    return True
+        return len(words) if told(f"seed {seed}", lines, words) else None
+
+    return forgetting.all_runs(asked, one)
 
 
 def is_noticed(library: Path, rule: str, asked: argparse.Namespace) -> bool:
     """Whether a reading that forgets a rule differs from the router in a trial, or in a random run."""
     name = next((name for name in TRIALS if trial(library, name, [rule])[0]), None)
     seed = None if name else next((seed for seed in range(1, 200) if run(library, seed, asked.events, [rule])[0]), None)
-    came = f"in trial {name}" if name else f"with seed {seed}" if seed else "nowhere"
-    print(f"{rule} ({RULES[rule]}): differs {came}", flush=True)
-    return bool(name or seed)
+    return forgetting.said_of(rule, RULES, seed, name)
 
 
 # ---- storms
@@ -134,7 +129,7 @@ class Storm:
         """So many messages. The reading is told of the last ones, and what they are compared with."""
         now, begin = heard.wanted.around.now, time.process_time()
         end = now + count - len(self.frames)
-        self.come(heard.router._router, heard.bsr._bsr, range(now + 1, end + 1))
+        self.come(heard.router._at, heard.bsr._at, range(now + 1, end + 1))
         self.seconds += time.process_time() - begin
         for moment in range(end + 1 - len(self.frames), end + 1):
             heard.wanted.pass_to(moment)
@@ -190,15 +185,10 @@ def storm(library: Path, kind: str, seconds: int) -> bool:
 
 
 def add_words(parser: argparse.ArgumentParser) -> None:
-    parser.add_argument("--seconds", type=float, default=60, metavar="N", help="of random runs")
-    parser.add_argument("--seed", type=int, default=1, metavar="N")
-    parser.add_argument("--events", type=int, default=200, metavar="N", help="of a random run")
+    forgetting.add_runs(parser, 60, 200)
     parser.add_argument("--storm", type=int, default=3600, metavar="SECONDS", help="of simulated time, each storm")
-    what = parser.add_mutually_exclusive_group()
-    what.add_argument("--forget", choices=sorted(RULES), metavar="RULE")
-    what.add_argument("--each", action="store_true", help="try every rule")
-    what.add_argument("--rules", action="store_true", help="list them")
-    add_choice(parser).add_argument("--sanitized", action="store_true", help="before any proof, each access checked")
+    library = forgetting.add_rules(parser, RULES)
+    library.add_argument("--sanitized", action="store_true", help="before any proof, each access checked")
 
 
 def library_of(asked: argparse.Namespace) -> Path:
@@ -211,15 +201,13 @@ def library_of(asked: argparse.Namespace) -> Path:
     return sanitized.shared(LIBRARIES / "sanitized" / "libviqeshor_refusing.so", [REFUSING], *WRAPS)
 
 
-def is_right(asked: argparse.Namespace) -> bool:
-    if asked.rules:
-        print("\n".join(f"{rule}: {words}" for rule, words in RULES.items()))
-        return True
-    library = library_of(asked)
-    if asked.forget or asked.each:
-        return all([is_noticed(library, rule, asked) for rule in ([asked.forget] if asked.forget else RULES)])
+def all_of(library: Path, asked: argparse.Namespace) -> bool:
     return (
         all(list(all_trials(library)))
         and all_runs(library, asked)
         and all([storm(library, kind, asked.storm) for kind in STORMS])
     )
+
+
+def is_right(asked: argparse.Namespace) -> bool:
+    return forgetting.is_right(asked, RULES, library_of, is_noticed, all_of)

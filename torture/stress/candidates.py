@@ -15,14 +15,14 @@ from __future__ import annotations
 
 import argparse
 import random
-import time
 from collections.abc import Callable, Iterable
 from dataclasses import dataclass, field
 from ipaddress import IPv4Address, IPv4Network
 from pathlib import Path
 
 import viqeshor
-from pimtext.build.library import add_choice, chosen
+from pimtext.build.library import chosen
+from stress import forgetting
 from viqeshor import Answer
 from viqeshor.lab.rps import hashed
 
@@ -265,44 +265,28 @@ def run(library: Path, seed: int, count: int, forgets: Iterable[str] = ()) -> tu
 def is_noticed(library: Path, rule: str, asked: argparse.Namespace) -> bool:
     """Whether a reading that forgets a rule differs from the router in a random run."""
     seed = next((seed for seed in range(1, 200) if run(library, seed, asked.events, [rule])[0]), None)
-    print(f"{rule} ({RULES[rule]}): differs {f'with seed {seed}' if seed else 'nowhere'}", flush=True)
-    return seed is not None
+    return forgetting.said_of(rule, RULES, seed)
 
 
 def all_runs(library: Path, asked: argparse.Namespace) -> bool:
-    end, seed, events = time.monotonic() + asked.seconds, asked.seed, 0
-    while time.monotonic() < end:
+    def one(seed: int) -> int | None:
         differs, words = run(library, seed, asked.events)
-        events += len(words)
         if differs:
             print(f"seed {seed}, {len(words)} events:")
             print("\n".join(f"  {number} {word}" for number, word in enumerate(words, 1)))
             print(f"  {differs}")
-            return False
-        seed += 1
-    print(f"{seed - asked.seed} runs, {events} lists and restarts: no divergence", flush=True)
-    return True
+        return None if differs else len(words)
+
+    return forgetting.all_runs(asked, one, "lists and restarts")
 
 
 # ---- the tool
 
 
 def add_words(parser: argparse.ArgumentParser) -> None:
-    parser.add_argument("--seconds", type=float, default=30, metavar="N", help="of random runs")
-    parser.add_argument("--seed", type=int, default=1, metavar="N")
-    parser.add_argument("--events", type=int, default=50, metavar="N", help="of a random run")
-    what = parser.add_mutually_exclusive_group()
-    what.add_argument("--forget", choices=sorted(RULES), metavar="RULE")
-    what.add_argument("--each", action="store_true", help="try every rule")
-    what.add_argument("--rules", action="store_true", help="list them")
-    add_choice(parser)
+    forgetting.add_runs(parser, 30, 50)
+    forgetting.add_rules(parser, RULES)
 
 
 def is_right(asked: argparse.Namespace) -> bool:
-    if asked.rules:
-        print("\n".join(f"{rule}: {words}" for rule, words in RULES.items()))
-        return True
-    library = chosen(asked)[0].shared()
-    if asked.forget or asked.each:
-        return all([is_noticed(library, rule, asked) for rule in ([asked.forget] if asked.forget else RULES)])
-    return all_runs(library, asked)
+    return forgetting.is_right(asked, RULES, lambda asked: chosen(asked)[0].shared(), is_noticed, all_runs)

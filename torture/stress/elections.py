@@ -19,13 +19,13 @@ import argparse
 import heapq
 import itertools
 import random
-import time
-from collections.abc import Iterable, Iterator
+from collections.abc import Iterable
 from dataclasses import dataclass, field
 from ipaddress import IPv4Address
 from pathlib import Path
 
-from pimtext.build.library import add_choice, chosen
+from pimtext.build.library import chosen
+from stress import forgetting
 from stress.advertised import Advertised, AsBsr, AsRp, Differs, advertisement_message, advertisement_packet
 from stress.domains import planned
 from stress.rfc5059 import network, packet
@@ -336,47 +336,26 @@ def told(seed: int, differs: str, made: Run) -> bool:
 
 
 def all_runs(library: Path, asked: argparse.Namespace) -> bool:
-    end, seed, events = time.monotonic() + asked.seconds, asked.seed, 0
-    while time.monotonic() < end:
+    def one(seed: int) -> int | None:
         differs, made = run(library, seed, asked.events)
-        events += made.events
-        if not told(seed, differs, made):
-            return False
-        seed += 1
-    print(f"{seed - asked.seed} runs, {events} events: no divergence", flush=True)
-    return True
+        return made.events if told(seed, differs, made) else None
 
-
-def noticing(library: Path, rule: str, count: int) -> Iterator[int]:
-    """Numbers of runs in which a reading that forgets a rule differs from the routers."""
-    return (seed for seed in range(1, 300) if run(library, seed, count, [rule])[0])
+    return forgetting.all_runs(asked, one)
 
 
 def is_noticed(library: Path, rule: str, asked: argparse.Namespace) -> bool:
-    seed = next(noticing(library, rule, asked.events), None)
-    print(f"{rule} ({RULES[rule]}): differs {f'with seed {seed}' if seed else 'nowhere'}", flush=True)
-    return seed is not None
+    """Whether a reading that forgets a rule differs from the routers in a random run."""
+    seed = next((seed for seed in range(1, 300) if run(library, seed, asked.events, [rule])[0]), None)
+    return forgetting.said_of(rule, RULES, seed)
 
 
 # ---- the tool
 
 
 def add_words(parser: argparse.ArgumentParser) -> None:
-    parser.add_argument("--seconds", type=float, default=60, metavar="N", help="of random runs")
-    parser.add_argument("--seed", type=int, default=1, metavar="N")
-    parser.add_argument("--events", type=int, default=40, metavar="N", help="of a run, before its silence")
-    what = parser.add_mutually_exclusive_group()
-    what.add_argument("--forget", choices=sorted(RULES), metavar="RULE")
-    what.add_argument("--each", action="store_true", help="try every rule")
-    what.add_argument("--rules", action="store_true", help="list them")
-    add_choice(parser)
+    forgetting.add_runs(parser, 60, 40, "of a run, before its silence")
+    forgetting.add_rules(parser, RULES)
 
 
 def is_right(asked: argparse.Namespace) -> bool:
-    if asked.rules:
-        print("\n".join(f"{rule}: {words}" for rule, words in RULES.items()))
-        return True
-    library = chosen(asked)[0].shared()
-    if asked.forget or asked.each:
-        return all([is_noticed(library, rule, asked) for rule in ([asked.forget] if asked.forget else RULES)])
-    return all_runs(library, asked)
+    return forgetting.is_right(asked, RULES, lambda asked: chosen(asked)[0].shared(), is_noticed, all_runs)

@@ -23,7 +23,8 @@ from pathlib import Path
 from typing import TYPE_CHECKING, Any
 
 import viqeshor
-from pimtext.build.library import CC, add_choice, beside, chosen, ran
+from pimtext.build.library import CC, beside, chosen, ran
+from stress import forgetting
 from stress.dataplane import DUTIES, CaughtUp, Plane, outcome
 from stress.happenings import Event, Happenings, events_of
 from stress.stored import made, routers
@@ -189,9 +190,13 @@ def sound(library: Path, asked: argparse.Namespace) -> Iterator[bool]:
     yield told(f"{count} runs", found, events, decided)
 
 
-def forgetful(library: Path, asked: argparse.Namespace, duty: str, is_shown: bool) -> bool:
+def is_sound(library: Path, asked: argparse.Namespace) -> bool:
+    return all(list(sound(library, asked)))
+
+
+def forgetful(library: Path, duty: str, asked: argparse.Namespace) -> bool:
     found, count, events, _ = runs(library, asked, [duty])
-    if found and is_shown:
+    if found and not asked.each:
         found.print()
     came = f"diverges in run {count}, after {len(found.events)} events" if found else f"no divergence in {count} runs"
     print(f"{duty} ({DUTIES[duty]}): {came}", flush=True)
@@ -202,19 +207,8 @@ def add_words(parser: argparse.ArgumentParser) -> None:
     parser.add_argument("--runs", type=int, default=1000, metavar="N")
     parser.add_argument("--seed", type=int, default=1, metavar="N")
     parser.add_argument("--events", type=int, default=120, metavar="N", help="of a run")
-    what = parser.add_mutually_exclusive_group()
-    what.add_argument("--forget", choices=sorted(DUTIES), metavar="DUTY")
-    what.add_argument("--each", action="store_true", help="try every duty")
-    what.add_argument("--duties", action="store_true", help="list them")
-    add_choice(parser)
+    forgetting.add_rules(parser, DUTIES, "duty", "duties")
 
 
 def is_right(asked: argparse.Namespace) -> bool:
-    if asked.duties:
-        print("\n".join(f"{duty}: {words}" for duty, words in DUTIES.items()))
-        return True
-    library = refusing(chosen(asked)[0])
-    if asked.forget or asked.each:
-        duties = [asked.forget] if asked.forget else DUTIES
-        return all([forgetful(library, asked, duty, not asked.each) for duty in duties])
-    return all(list(sound(library, asked)))
+    return forgetting.is_right(asked, DUTIES, lambda asked: refusing(chosen(asked)[0]), forgetful, is_sound)

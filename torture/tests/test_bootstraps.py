@@ -1,6 +1,4 @@
 """`torture/run bootstraps`: its reading of RFC 5059 by hand, and that each rule which it forgets is noticed."""
-import os
-import shutil
 import unittest
 from argparse import Namespace
 from contextlib import redirect_stdout
@@ -11,11 +9,11 @@ from pimtext.build.library import Library
 from stress import bootstraps, listeners, rfc5059
 from stress.plane import refusing
 from stress.rfc5059 import Around, Listener, packet
+from tests.forgetting import OfRouters
 from viqeshor import Answer
 from viqeshor.lab import packets
 from viqeshor.lab.packets import Bootstrap, CandidateRp, RpRange, bootstrap_message
 
-CC = os.environ.get("CC", "cc")
 ABOVE, BSR = "10.0.0.1", "10.9.9.9"
 # The RPs of 239.0.0.0/8, and the values that FRR 8.4.4 prints for them with a mask of 30 bits.
 PRINTED = {"10.99.0.1": 2067580945, "10.88.0.9": 240866473, "10.77.0.2": 53588824}
@@ -141,21 +139,13 @@ class Reading(unittest.TestCase):
         self.assertEqual(self.hear([(FIRST, 150)], no_forward=True, bsr="10.9.9.10").sent, ())
 
 
-@unittest.skipUnless(shutil.which(CC) and shutil.which("rt"), "there is no C compiler, or no kit")
-class Listeners(unittest.TestCase):
+class Listeners(OfRouters):
     @classmethod
     def setUpClass(cls):
         cls.library = refusing(Library(is_proved=False))
 
-    def said(self, call, *values):
-        with redirect_stdout(StringIO()) as out:
-            self.assertTrue(call(*values), out.getvalue())
-        return out.getvalue()
-
     def test_each_rule_that_is_forgotten_is_noticed(self):
-        for rule in rfc5059.RULES:
-            with self.subTest(rule):
-                self.said(bootstraps.is_noticed, self.library, rule, Namespace(events=100))
+        self.notices(bootstraps, rfc5059.RULES, Namespace(events=100))
 
     def test_a_divergence_is_printed_with_its_events(self):
         lines, words = bootstraps.trial(self.library, "tags", ["fragments"])

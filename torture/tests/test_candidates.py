@@ -1,18 +1,13 @@
 """`torture/run candidates`: its reading of RFC 7761 by hand, and that each rule which it forgets is noticed."""
-import os
-import shutil
 import unittest
 from argparse import Namespace
-from contextlib import redirect_stdout
-from io import StringIO
 from ipaddress import IPv4Address
 
-from pimtext.build.library import Library
 from stress import candidates
 from stress.candidates import Reading
+from tests.forgetting import OfRouters
 from viqeshor import Answer
 
-CC = os.environ.get("CC", "cc")
 # 239.0.0.0/8, of which FRR 8.4.4 prints these hash values with a mask of 30 bits; 239.0.0.3 has them too.
 WIDE, LENGTH = int(IPv4Address("239.0.0.0")), 8
 PRINTED = {"10.99.0.1": 2067580945, "10.88.0.9": 240866473, "10.77.0.2": 53588824}
@@ -63,21 +58,9 @@ class Read(unittest.TestCase):
         self.assertEqual((self.takes(*many[:256]), self.rp() in dict(many)), (Answer.DONE, True))
 
 
-@unittest.skipUnless(shutil.which(CC) and shutil.which("rt"), "there is no C compiler, or no kit")
-class Routers(unittest.TestCase):
-    @classmethod
-    def setUpClass(cls):
-        cls.library = Library(is_proved=False).shared()
-
-    def said(self, call, *values):
-        with redirect_stdout(StringIO()) as out:
-            self.assertTrue(call(*values), out.getvalue())
-        return out.getvalue()
-
+class Routers(OfRouters):
     def test_each_rule_that_is_forgotten_is_noticed(self):
-        for rule in candidates.RULES:
-            with self.subTest(rule):
-                self.said(candidates.is_noticed, self.library, rule, Namespace(events=60))
+        self.notices(candidates, candidates.RULES, Namespace(events=60))
 
     def test_random_runs(self):
         said = self.said(candidates.all_runs, self.library, Namespace(seconds=2, seed=1, events=50))

@@ -1,14 +1,9 @@
 """`torture/run elections`: its reading of RFC 5059 by hand, and that each rule which it forgets is noticed."""
 import math
-import os
-import shutil
 import unittest
 from argparse import Namespace
-from contextlib import redirect_stdout
-from io import StringIO
 from ipaddress import IPv4Network
 
-from pimtext.build.library import Library
 from stress import elections
 from stress.advertised import (
     Advertised,
@@ -24,11 +19,11 @@ from stress.advertised import (
 )
 from stress.rfc5059 import Around, Listener, packet
 from stress.standing import Standing
+from tests.forgetting import OfRouters
 from viqeshor import Answer
 from viqeshor.lab import packets
 from viqeshor.lab.packets import Bootstrap, CandidateRp, RpRange, bootstrap_message
 
-CC = os.environ.get("CC", "cc")
 OWN, NEXT, LOWER, HIGHER = "10.0.0.9", "10.0.0.2", "10.8.0.1", "10.9.0.1"
 RANGE = ("239.3.0.0", 16, False)
 # What FRR 10.3 sent as a candidate RP, and then as the BSR.
@@ -181,21 +176,9 @@ class Read(unittest.TestCase):
         self.assertEqual((standing.told, standing.next_end()), (None, None))
 
 
-@unittest.skipUnless(shutil.which(CC) and shutil.which("rt"), "there is no C compiler, or no kit")
-class Routers(unittest.TestCase):
-    @classmethod
-    def setUpClass(cls):
-        cls.library = Library(is_proved=False).shared()
-
-    def said(self, call, *values):
-        with redirect_stdout(StringIO()) as out:
-            self.assertTrue(call(*values), out.getvalue())
-        return out.getvalue()
-
+class Routers(OfRouters):
     def test_each_rule_that_is_forgotten_is_noticed(self):
-        for rule in elections.RULES:
-            with self.subTest(rule):
-                self.said(elections.is_noticed, self.library, rule, Namespace(events=40))
+        self.notices(elections, elections.RULES, Namespace(events=40))
 
     def test_random_runs(self):
         said = self.said(elections.all_runs, self.library, Namespace(seconds=2, seed=1, events=20))

@@ -70,6 +70,11 @@ class Candidates(unittest.TestCase):
         self.assertEqual(self.rp(), OWN)
         self.assertEqual(self.candidacy.next_moment(self.bsr, self.router), self.router.next_moment())
 
+    def test_a_candidate_without_a_priority_says_64(self):
+        self.begin(CandidateBsr(OWN))
+        self.assertEqual(self.run_to(6000)[0][2][7], 64)
+        self.assertEqual(self.bsr.elected(), Elected(OWN, 64, 136_000))
+
     def test_an_elected_bsr_is_told_of_rps(self):
         self.begin(AS_BSR)
         self.assertEqual(self.candidacy.unicast(self.router, advertisement(FIRST, 100)), Answer.NOT_ELECTED)

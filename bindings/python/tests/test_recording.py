@@ -20,9 +20,7 @@ CANDIDATES = [("239.0.0.0/9", "10.0.0.2", 5, 30), ("239.0.0.0/9", "10.0.1.1", 5,
 
 class Recordings(unittest.TestCase):
     def setUp(self):
-        room = tempfile.TemporaryDirectory()
-        self.addCleanup(room.cleanup)
-        self.now, self.path = 0, Path(room.name) / "router"
+        self.now, self.path = 0, Path(self.enterContext(tempfile.TemporaryDirectory())) / "router"
         self.router = Router(LINKS, [("224.0.0.0/4", "10.0.0.2")], [("10.9.0.0/16", "10.0.0.1", 0, 110, 20)])
         self.addCleanup(self.router.end)
 
@@ -422,9 +420,7 @@ class Disks(unittest.TestCase):
     """A disk that fails ends the recording, and harms no call of the router."""
 
     def setUp(self):
-        room = tempfile.TemporaryDirectory()
-        self.addCleanup(room.cleanup)
-        self.now, self.path = 0, Path(room.name) / "router"
+        self.now, self.path = 0, Path(self.enterContext(tempfile.TemporaryDirectory())) / "router"
         self.router = Router(LINKS)
         self.addCleanup(self.router.end)
 

@@ -1,13 +1,16 @@
 //! RPs that are learned of Bootstraps (RFC 5059).
 use crate::raw::{Draw, Range as CRange};
-use crate::{done, ends, verdict, Candidate, Error, Range, Reason, Router, Target, Verdict, ABI, DONE, MOST_BYTES};
+use crate::{
+    all_written, done, ends, made, verdict, written, Candidacy, Candidate, Error, Range, Reason, Router, Target,
+    Verdict, ABI, MOST_BYTES,
+};
 use std::ffi::c_void;
 use std::fmt;
 use std::net::Ipv4Addr;
-use std::ptr::{null_mut, NonNull};
+use std::ptr::NonNull;
 
 /// The latest timestamp of an event, in ms.
-pub(crate) const LAST_MOMENT: u64 = 1 << 62;
+const LAST_MOMENT: u64 = 1 << 62;
 
 /// What an RP is chosen for, of several that a learned range has.
 #[derive(Clone, Copy, Debug, PartialEq, Eq)]
@@ -130,36 +133,115 @@ pub(crate) fn sooner(one: Option<u64>, other: Option<u64>) -> Option<u64> {
     one.into_iter().chain(other).min()
 }
 
+/// A listener, with the candidacy beside it where there is one.
+pub(crate) struct Listening<'a> {
+    pub bsr: &'a mut Bsr,
+    pub candidacy: Option<&'a mut Candidacy>,
+}
+
+impl Listening<'_> {
+    pub fn frame(
+        &mut self,
+        router: &mut Router,
+        iface: u32,
+        packet: &[u8],
+        draw: u32,
+        send: &mut impl FnMut(Target, &[u8]),
+    ) -> Result<Verdict, Error> {
+        let verdict = router.frame(iface, packet, draw)?;
+        send_all(router, send);
+        if verdict != Verdict::Ignored(Reason::OtherType) {
+            return Ok(verdict);
+        }
+        let heard = match &mut self.candidacy {
+            Some(candidacy) => candidacy.hear(self.bsr, router, iface, packet, draw)?,
+            None => self.bsr.hear(router, iface, packet)?,
+        };
+        match heard {
+            Heard::Other => Ok(verdict),
+            Heard::Ignored(reason) => Ok(Verdict::Ignored(reason)),
+            Heard::Taken { moved } => {
+                send_all(router, send);
+                self.bsr.give_if(moved, router, draw, send)?;
+                Ok(Verdict::Done)
+            }
+        }
+    }
+
+    pub fn advance(
+        &mut self,
+        router: &mut Router,
+        moment: u64,
+        draw: u32,
+        send: &mut impl FnMut(Target, &[u8]),
+    ) -> Result<Verdict, Error> {
+        while let Some(end) = self.next_end().filter(|end| *end <= moment && moment <= LAST_MOMENT) {
+            self.step(router, end, draw, send)?;
+        }
+        self.step(router, moment, draw, send)
+    }
+
+    pub fn run_to(
+        &mut self,
+        router: &mut Router,
+        now: u64,
+        draw: &mut impl FnMut() -> u32,
+        send: &mut impl FnMut(Target, &[u8]),
+    ) -> Result<(), Error> {
+        send_all(router, send);
+        loop {
+            let moment = sooner(router.next_moment(), self.next_end()).map_or(now, |moment| moment.min(now));
+            self.advance(router, moment, draw(), send)?;
+            if moment == now && sooner(router.next_moment(), self.next_end()).map_or(true, |moment| moment > now) {
+                return Ok(());
+            }
+        }
+    }
+
+    fn next_end(&self) -> Option<u64> {
+        sooner(self.bsr.next_end(), self.candidacy.as_ref().and_then(|candidacy| candidacy.next_end()))
+    }
+
+    /// Time passes up to a timestamp at which nothing of the listener and of the candidacy was due before.
+    fn step(
+        &mut self,
+        router: &mut Router,
+        moment: u64,
+        draw: u32,
+        send: &mut impl FnMut(Target, &[u8]),
+    ) -> Result<Verdict, Error> {
+        let verdict = router.advance(moment, draw)?;
+        send_all(router, send);
+        let moved = match &mut self.candidacy {
+            Some(candidacy) => candidacy.pass(self.bsr, router, moment, draw)?,
+            None => self.bsr.pass(moment)?,
+        };
+        send_all(router, send);
+        self.bsr.give_if(moved, router, draw, send)?;
+        Ok(verdict)
+    }
+}
+
 impl Bsr {
     /// Makes a listener, which knows no BSR, for a router that has these ranges. It keeps at most `limit` RPs, 1 to 256,
     /// with those of messages of which fragments are missing. Until the timestamp `refresh_end` one message may come that
     /// a neighbour sends to a router which has just started: 60,000 ms after the router started, or 0 for none.
     pub fn new(limit: u32, ranges: &[Range], refresh_end: u64) -> Result<Bsr, Error> {
-        let mut made = null_mut();
         let given: Vec<_> = ranges.iter().map(Range::given).collect();
         // SAFETY: the list is passed as its pointer and its length, and what points to the listener is only written.
-        let answer = unsafe { viq_bsr_new(&mut made, ABI, limit, given.as_ptr(), given.len(), refresh_end) };
-        match NonNull::new(made) {
-            Some(at) if answer == DONE => Ok(Bsr { at, configured: ranges.to_vec() }),
-            _ => Err(Error::of(answer)),
-        }
+        let at = made(|at| unsafe { with_lists!(viq_bsr_new(at, ABI, limit; given; refresh_end)) })?;
+        Ok(Bsr { at, configured: ranges.to_vec() })
     }
 
     /// Makes a listener of what `save` returned, which knows what the one knew that was saved, its configured ranges too.
     /// It is for the router that is restored of what was saved at the same moment. Bytes that are none of a listener are
     /// refused, whatever they are.
     pub fn restore(saved: &[u8]) -> Result<Bsr, Error> {
-        let mut made = null_mut();
         // SAFETY: the bytes are passed as their pointer and their length, and what points to the listener is only written.
-        let answer = unsafe { viq_bsr_restore(&mut made, ABI, saved.as_ptr(), saved.len()) };
-        match NonNull::new(made) {
-            Some(at) if answer == DONE => {
-                let mut bsr = Bsr { at, configured: Vec::new() };
-                bsr.configured = bsr.ranges();
-                Ok(bsr)
-            }
-            _ => Err(Error::of(answer)),
-        }
+        let at = made(|at| unsafe { viq_bsr_restore(at, ABI, saved.as_ptr(), saved.len()) })?;
+        let mut bsr = Bsr { at, configured: Vec::new() };
+        bsr.configured = bsr.ranges();
+        Ok(bsr)
     }
 
     /// All that the listener knows as bytes, of which `restore` makes a listener. A router's `save` doesn't have it.
@@ -179,16 +261,9 @@ impl Bsr {
     }
 
     fn ranges(&self) -> Vec<Range> {
+        let range_of = |range: CRange| Range::new(range.prefix.into(), range.length, range.rp.into());
         // SAFETY: the listener is there.
-        let count = unsafe { viq_bsr_configured(self.at.as_ptr()) };
-        (0..count).filter_map(|index| self.range(index)).collect()
-    }
-
-    fn range(&self, index: usize) -> Option<Range> {
-        let mut range = CRange::default();
-        // SAFETY: the listener is there.
-        let is_there = unsafe { viq_bsr_range(self.at.as_ptr(), index, &mut range) };
-        is_there.then(|| Range::new(range.prefix.into(), range.length, range.rp.into()))
+        unsafe { all_written(viq_bsr_configured(self.at()), |index, to| viq_bsr_range(self.at(), index, to), range_of) }
     }
 
     // ---- whole steps
@@ -204,20 +279,7 @@ impl Bsr {
         draw: u32,
         mut send: impl FnMut(Target, &[u8]),
     ) -> Result<Verdict, Error> {
-        let verdict = router.frame(iface, packet, draw)?;
-        send_all(router, &mut send);
-        if verdict != Verdict::Ignored(Reason::OtherType) {
-            return Ok(verdict);
-        }
-        match self.hear(router, iface, packet)? {
-            Heard::Other => Ok(verdict),
-            Heard::Ignored(reason) => Ok(Verdict::Ignored(reason)),
-            Heard::Taken { moved } => {
-                send_all(router, &mut send);
-                self.give_if(moved, router, draw, &mut send)?;
-                Ok(Verdict::Done)
-            }
-        }
+        Listening { bsr: self, candidacy: None }.frame(router, iface, packet, draw, &mut send)
     }
 
     /// Time passes up to a timestamp, as by `Router::advance`, and on the way to the end of each RP, where the router is
@@ -229,10 +291,7 @@ impl Bsr {
         draw: u32,
         mut send: impl FnMut(Target, &[u8]),
     ) -> Result<Verdict, Error> {
-        while let Some(end) = self.next_end().filter(|end| *end <= moment && moment <= LAST_MOMENT) {
-            self.step(router, end, draw, &mut send)?;
-        }
-        self.step(router, moment, draw, &mut send)
+        Listening { bsr: self, candidacy: None }.advance(router, moment, draw, &mut send)
     }
 
     /// Time passes up to the timestamp `now`, timer by timer, as by `Router::run_to`.
@@ -243,14 +302,7 @@ impl Bsr {
         mut draw: impl FnMut() -> u32,
         mut send: impl FnMut(Target, &[u8]),
     ) -> Result<(), Error> {
-        send_all(router, &mut send);
-        loop {
-            let moment = self.next_moment(router).map_or(now, |moment| moment.min(now));
-            self.advance(router, moment, draw(), &mut send)?;
-            if moment == now && self.next_moment(router).map_or(true, |moment| moment > now) {
-                return Ok(());
-            }
-        }
+        Listening { bsr: self, candidacy: None }.run_to(router, now, &mut draw, &mut send)
     }
 
     /// The timestamp at which time is to pass: the next timer of the router expires, or an RP of the listener.
@@ -258,22 +310,7 @@ impl Bsr {
         sooner(router.next_moment(), self.next_end())
     }
 
-    /// Time passes up to a timestamp at which nothing of the listener was due before.
-    fn step(
-        &mut self,
-        router: &mut Router,
-        moment: u64,
-        draw: u32,
-        send: &mut impl FnMut(Target, &[u8]),
-    ) -> Result<Verdict, Error> {
-        let verdict = router.advance(moment, draw)?;
-        send_all(router, send);
-        let moved = self.pass(moment)?;
-        self.give_if(moved, router, draw, send)?;
-        Ok(verdict)
-    }
-
-    pub(crate) fn give_if(
+    fn give_if(
         &self,
         moved: bool,
         router: &mut Router,
@@ -322,8 +359,7 @@ impl Bsr {
         let mut moved = false;
         // SAFETY: the listener and the router are there and borrowed alone; the packet is passed as its pointer and its
         // length.
-        let answer =
-            unsafe { viq_bsr_hear(self.at_mut(), router.at_mut(), iface, packet.as_ptr(), packet.len(), &mut moved) };
+        let answer = unsafe { with_lists!(viq_bsr_hear(self.at_mut(), router.at_mut(), iface; packet; &mut moved)) };
         Heard::of(answer, moved)
     }
 
@@ -359,12 +395,10 @@ impl Bsr {
         draw: u32,
     ) -> Result<Verdict, Error> {
         let given: Vec<_> = ranges.iter().map(Range::given).collect();
+        let (at, router, draw) = (self.at_mut(), router.at_mut(), Draw { bits: draw });
         // SAFETY: the listener and the router are there and borrowed alone; the list is passed as its pointer and its
         // length.
-        let answer = unsafe {
-            viq_bsr_ranges(self.at_mut(), router.at_mut(), limit, given.as_ptr(), given.len(), Draw { bits: draw })
-        };
-        let verdict = verdict(answer)?;
+        let verdict = verdict(unsafe { with_lists!(viq_bsr_ranges(at, router, limit; given; draw)) })?;
         if verdict == Verdict::Done {
             self.configured = ranges.to_vec();
         }
@@ -375,52 +409,36 @@ impl Bsr {
 
     /// The elected BSR.
     pub fn elected(&self) -> Option<Elected> {
-        let mut told = raw::Elected::default();
         // SAFETY: the listener is there.
-        unsafe { viq_bsr_elected(self.at.as_ptr(), &mut told) }.then(|| Elected {
-            bsr: told.bsr.into(),
-            priority: told.priority,
-            end: told.end,
-        })
+        let told: Option<raw::Elected> = written(|told| unsafe { viq_bsr_elected(self.at(), told) });
+        told.map(|it| Elected { bsr: it.bsr.into(), priority: it.priority, end: it.end })
     }
 
     /// The RPs in force, in the order in which they were learned.
     pub fn rps(&self) -> Vec<LearnedRp> {
-        // SAFETY: the listener is there.
-        let count = unsafe { viq_bsr_rps(self.at.as_ptr()) };
-        (0..count).filter_map(|index| self.rp(index)).collect()
-    }
-
-    fn rp(&self, index: usize) -> Option<LearnedRp> {
-        let mut row = raw::Rp::default();
-        // SAFETY: the listener is there.
-        unsafe { viq_bsr_rp(self.at.as_ptr(), index, &mut row) }.then(|| LearnedRp {
+        let rp_of = |row: raw::Rp| LearnedRp {
             range: Range::new(row.prefix.into(), row.length, row.rp.into()),
             priority: row.priority,
             hash_length: row.hash_length,
             is_given: row.is_given,
             end: row.end,
-        })
+        };
+        // SAFETY: the listener is there.
+        unsafe { all_written(viq_bsr_rps(self.at()), |index, row| viq_bsr_rp(self.at(), index, row), rp_of) }
     }
 
     /// The RPs of messages of which fragments are missing.
     pub fn parts(&self) -> Vec<LearnedPart> {
-        // SAFETY: the listener is there.
-        let count = unsafe { viq_bsr_parts(self.at.as_ptr()) };
-        (0..count).filter_map(|index| self.part(index)).collect()
-    }
-
-    fn part(&self, index: usize) -> Option<LearnedPart> {
-        let mut row = raw::Part::default();
-        // SAFETY: the listener is there.
-        unsafe { viq_bsr_part(self.at.as_ptr(), index, &mut row) }.then(|| LearnedPart {
+        let part_of = |row: raw::Part| LearnedPart {
             range: Range::new(row.prefix.into(), row.length, row.rp.into()),
             priority: row.priority,
             holdtime: row.holdtime,
             bsr: row.bsr.into(),
             tag: row.tag,
             end: row.end,
-        })
+        };
+        // SAFETY: the listener is there.
+        unsafe { all_written(viq_bsr_parts(self.at()), |index, row| viq_bsr_part(self.at(), index, row), part_of) }
     }
 
     /// What an RP is chosen for; of a new listener a range.
@@ -509,37 +527,19 @@ mod raw {
     }
 }
 
+list_calls! {
+    viq_bsr_new(bsr: *mut *mut c_void, abi: u32, limit: u32; CRange; refresh_end: u64) -> u32;
+    viq_bsr_ranges(bsr: *mut c_void, router: *mut c_void, limit: u32; CRange; draw: Draw) -> u32;
+    viq_bsr_hear(bsr: *mut c_void, router: *mut c_void, iface: u32; u8; moved: *mut bool) -> u32;
+}
+
 extern "C" {
-    fn viq_bsr_new(
-        bsr: *mut *mut c_void,
-        abi: u32,
-        limit: u32,
-        ranges: *const CRange,
-        count: usize,
-        refresh_end: u64,
-    ) -> u32;
     fn viq_bsr_restore(bsr: *mut *mut c_void, abi: u32, bytes: *const u8, length: usize) -> u32;
     fn viq_bsr_save(bsr: *const c_void, room: *mut u8, room_length: usize, size: *mut usize) -> u32;
     fn viq_bsr_end(bsr: *mut c_void);
-    fn viq_bsr_hear(
-        bsr: *mut c_void,
-        router: *mut c_void,
-        iface: u32,
-        packet: *const u8,
-        length: usize,
-        moved: *mut bool,
-    ) -> u32;
     fn viq_bsr_give(bsr: *const c_void, router: *mut c_void, draw: Draw) -> u32;
     fn viq_bsr_next(bsr: *const c_void) -> u64;
     fn viq_bsr_pass(bsr: *mut c_void, moment: u64, moved: *mut bool) -> u32;
-    fn viq_bsr_ranges(
-        bsr: *mut c_void,
-        router: *mut c_void,
-        limit: u32,
-        ranges: *const CRange,
-        count: usize,
-        draw: Draw,
-    ) -> u32;
     fn viq_bsr_choose(bsr: *mut c_void, choice: u32) -> u32;
     fn viq_bsr_choice(bsr: *const c_void) -> u32;
     fn viq_bsr_configured(bsr: *const c_void) -> usize;

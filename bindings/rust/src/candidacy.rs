@@ -1,11 +1,13 @@
 //! Candidate bootstrap routers and candidate RPs (RFC 5059).
-use crate::bsr::{send_all, sooner, Heard, LAST_MOMENT};
+use crate::bsr::{send_all, sooner, Heard, Listening};
 use crate::raw::Draw;
-use crate::{done, ends, verdict, Bsr, Error, Prefix, Range, Reason, Router, Target, Verdict, ABI, DONE, NEVER};
+use crate::{
+    all_written, done, ends, made, verdict, Bsr, Error, Prefix, Range, Reason, Router, Target, Verdict, ABI, NEVER,
+};
 use std::ffi::c_void;
 use std::fmt;
 use std::net::Ipv4Addr;
-use std::ptr::{null_mut, NonNull};
+use std::ptr::NonNull;
 
 /// As what bootstrap router (BSR) a router stands.
 #[derive(Clone, Copy, Debug, PartialEq, Eq)]
@@ -21,9 +23,9 @@ pub struct CandidateBsr {
 }
 
 impl CandidateBsr {
-    /// Of the lowest priority, with a mask of 30 bits, and with room for 255 RPs of ranges.
+    /// Of the usual priority, 64 (RFC 5059, 4.1), with a mask of 30 bits, and with room for 255 RPs of ranges.
     pub fn new(address: Ipv4Addr) -> CandidateBsr {
-        CandidateBsr { address, priority: 0, hash_length: 30, limit: 255 }
+        CandidateBsr { address, priority: 64, hash_length: 30, limit: 255 }
     }
 }
 
@@ -114,15 +116,11 @@ impl Candidacy {
     /// candidate RP follows a BSR that is elected already. `Error::NoSetting` says that a value is out of its
     /// range, that an address is no host's, or that a range is no prefix of groups.
     pub fn new(as_bsr: Option<&CandidateBsr>, as_rp: Option<&CandidateRp>, now: u64) -> Result<Candidacy, Error> {
-        let mut made = null_mut();
         let (settings, ranges) = (raw::Settings::of(as_bsr, as_rp), raw::ranges(as_rp));
         // SAFETY: the settings are there, the list is passed as its pointer and its length, and what points to the candidacy
         // is only written.
-        let answer = unsafe { viq_candidacy_new(&mut made, ABI, &settings, ranges.as_ptr(), ranges.len(), now) };
-        match NonNull::new(made) {
-            Some(at) if answer == DONE => Ok(Candidacy { at }),
-            _ => Err(Error::of(answer)),
-        }
+        let at = made(|at| unsafe { with_lists!(viq_candidacy_new(at, ABI, &settings; ranges; now)) })?;
+        Ok(Candidacy { at })
     }
 
     // ---- whole steps
@@ -139,20 +137,7 @@ impl Candidacy {
         draw: u32,
         mut send: impl FnMut(Target, &[u8]),
     ) -> Result<Verdict, Error> {
-        let verdict = router.frame(iface, packet, draw)?;
-        send_all(router, &mut send);
-        if verdict != Verdict::Ignored(Reason::OtherType) {
-            return Ok(verdict);
-        }
-        match self.hear(bsr, router, iface, packet, draw)? {
-            Heard::Other => Ok(verdict),
-            Heard::Ignored(reason) => Ok(Verdict::Ignored(reason)),
-            Heard::Taken { moved } => {
-                send_all(router, &mut send);
-                bsr.give_if(moved, router, draw, &mut send)?;
-                Ok(Verdict::Done)
-            }
-        }
+        Listening { bsr, candidacy: Some(self) }.frame(router, iface, packet, draw, &mut send)
     }
 
     /// A packet to one of the router's addresses came, as by [`Router::unicast`]. Where the router ignores it as not for it
@@ -186,10 +171,7 @@ impl Candidacy {
         draw: u32,
         mut send: impl FnMut(Target, &[u8]),
     ) -> Result<Verdict, Error> {
-        while let Some(end) = self.first_end(bsr).filter(|end| *end <= moment && moment <= LAST_MOMENT) {
-            self.step(bsr, router, end, draw, &mut send)?;
-        }
-        self.step(bsr, router, moment, draw, &mut send)
+        Listening { bsr, candidacy: Some(self) }.advance(router, moment, draw, &mut send)
     }
 
     /// Time passes up to the timestamp `now`, timer by timer, as by [`Router::run_to`].
@@ -201,41 +183,13 @@ impl Candidacy {
         mut draw: impl FnMut() -> u32,
         mut send: impl FnMut(Target, &[u8]),
     ) -> Result<(), Error> {
-        send_all(router, &mut send);
-        loop {
-            let moment = self.next_moment(bsr, router).map_or(now, |moment| moment.min(now));
-            self.advance(bsr, router, moment, draw(), &mut send)?;
-            if moment == now && self.next_moment(bsr, router).map_or(true, |moment| moment > now) {
-                return Ok(());
-            }
-        }
+        Listening { bsr, candidacy: Some(self) }.run_to(router, now, &mut draw, &mut send)
     }
 
     /// The timestamp at which time is to pass: the next timer of the router expires, or one of the listener or of the
     /// candidacy.
     pub fn next_moment(&self, bsr: &Bsr, router: &Router) -> Option<u64> {
-        sooner(router.next_moment(), self.first_end(bsr))
-    }
-
-    fn first_end(&self, bsr: &Bsr) -> Option<u64> {
-        sooner(bsr.next_end(), self.next_end())
-    }
-
-    /// Time passes up to a timestamp at which nothing of the listener and of the candidacy was due before.
-    fn step(
-        &mut self,
-        bsr: &mut Bsr,
-        router: &mut Router,
-        moment: u64,
-        draw: u32,
-        send: &mut impl FnMut(Target, &[u8]),
-    ) -> Result<Verdict, Error> {
-        let verdict = router.advance(moment, draw)?;
-        send_all(router, send);
-        let moved = self.pass(bsr, router, moment, draw)?;
-        send_all(router, send);
-        bsr.give_if(moved, router, draw, send)?;
-        Ok(verdict)
+        sooner(bsr.next_moment(router), self.next_end())
     }
 
     // ---- the steps one by one
@@ -255,7 +209,7 @@ impl Candidacy {
         // pointer and its length.
         let answer = unsafe {
             let (at, bsr, router) = (self.at_mut(), bsr.at_mut(), router.at_mut());
-            viq_candidacy_hear(at, bsr, router, iface, packet.as_ptr(), packet.len(), draw, &mut moved)
+            with_lists!(viq_candidacy_hear(at, bsr, router, iface; packet; draw, &mut moved))
         };
         Heard::of(answer, moved)
     }
@@ -318,20 +272,15 @@ impl Candidacy {
 
     /// The RPs that advertised themselves to it, in the order in which they came.
     pub fn rps(&self) -> Vec<HeldRp> {
-        // SAFETY: the candidacy is there.
-        let count = unsafe { viq_candidacy_rps(self.at.as_ptr()) };
-        (0..count).filter_map(|index| self.rp(index)).collect()
-    }
-
-    fn rp(&self, index: usize) -> Option<HeldRp> {
-        let mut row = raw::Rp::default();
-        // SAFETY: the candidacy is there.
-        unsafe { viq_candidacy_rp(self.at.as_ptr(), index, &mut row) }.then(|| HeldRp {
+        let rp_of = |row: raw::Rp| HeldRp {
             range: Range::new(row.prefix.into(), row.length, row.rp.into()),
             priority: row.priority,
             holdtime: row.holdtime,
             end: row.end,
-        })
+        };
+        let at = self.at.as_ptr();
+        // SAFETY: the candidacy is there.
+        unsafe { all_written(viq_candidacy_rps(at), |index, row| viq_candidacy_rp(at, index, row), rp_of) }
     }
 
     fn at_mut(&mut self) -> *mut c_void {
@@ -416,26 +365,17 @@ mod raw {
     }
 }
 
+list_calls! {
+    viq_candidacy_new(
+        candidacy: *mut *mut c_void, abi: u32, settings: *const raw::Settings; raw::Prefix; moment: u64
+    ) -> u32;
+    viq_candidacy_hear(
+        candidacy: *mut c_void, bsr: *mut c_void, router: *mut c_void, iface: u32; u8; draw: Draw, moved: *mut bool
+    ) -> u32;
+}
+
 extern "C" {
-    fn viq_candidacy_new(
-        candidacy: *mut *mut c_void,
-        abi: u32,
-        settings: *const raw::Settings,
-        ranges: *const raw::Prefix,
-        count: usize,
-        moment: u64,
-    ) -> u32;
     fn viq_candidacy_end(candidacy: *mut c_void);
-    fn viq_candidacy_hear(
-        candidacy: *mut c_void,
-        bsr: *mut c_void,
-        router: *mut c_void,
-        iface: u32,
-        packet: *const u8,
-        length: usize,
-        draw: Draw,
-        moved: *mut bool,
-    ) -> u32;
     fn viq_candidacy_unicast(candidacy: *mut c_void, router: *mut c_void, packet: *const u8, length: usize) -> u32;
     fn viq_candidacy_next(candidacy: *const c_void) -> u64;
     fn viq_candidacy_pass(

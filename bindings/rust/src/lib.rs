@@ -29,6 +29,22 @@ use std::os::raw::{c_char, c_void};
 use std::ptr::{null_mut, NonNull};
 use std::str::FromStr;
 
+/// Declares calls of C that take lists, each as its pointer and its length, between what stands before and behind them.
+macro_rules! list_calls {
+    ($($name:ident($($before:ident: $first:ty),*; $($item:ty),*; $($behind:ident: $last:ty),*) -> $answer:ty;)*) => {
+        extern "C" {
+            $(fn $name($($before: $first,)* $(_: *const $item, _: usize,)* $($behind: $last,)*) -> $answer;)*
+        }
+    };
+}
+
+/// Calls one of them.
+macro_rules! with_lists {
+    ($name:ident($($before:expr),*; $($list:expr),*; $($behind:expr),*)) => {
+        $name($($before,)* $($list.as_ptr(), $list.len(),)* $($behind,)*)
+    };
+}
+
 mod bsr;
 mod candidacy;
 mod record;
@@ -323,6 +339,29 @@ impl Settings {
     }
 }
 
+/// A configuration as C takes it.
+struct Given {
+    settings: raw::Settings,
+    /// To which the settings point.
+    _addresses: Vec<u32>,
+    interfaces: Vec<raw::Interface>,
+    routes: Vec<raw::Route>,
+    ranges: Vec<raw::Range>,
+}
+
+impl Given {
+    fn of(settings: &Settings, interfaces: &[Interface], routes: &[Route], ranges: &[Range]) -> Given {
+        let addresses = settings.given_addresses();
+        Given {
+            settings: settings.given(&addresses),
+            _addresses: addresses,
+            interfaces: interfaces.iter().map(Interface::given).collect(),
+            routes: routes.iter().map(Route::given).collect(),
+            ranges: ranges.iter().map(Range::given).collect(),
+        }
+    }
+}
+
 impl Default for Settings {
     fn default() -> Settings {
         Settings {
@@ -575,6 +614,12 @@ pub struct RefusedAt {
     pub reason: u32,
 }
 
+impl RefusedAt {
+    fn from_c(of: raw::RefusedAt) -> RefusedAt {
+        RefusedAt { index: of.index, reason: of.reason }
+    }
+}
+
 impl fmt::Display for RefusedAt {
     fn fmt(&self, to: &mut fmt::Formatter) -> fmt::Result {
         // SAFETY: the call takes any number.
@@ -588,38 +633,23 @@ pub fn refused_route(settings: &Settings, interfaces: &[Interface], routes: &[Ro
     let addresses = settings.given_addresses();
     let interfaces: Vec<_> = interfaces.iter().map(Interface::given).collect();
     let routes: Vec<_> = routes.iter().map(Route::given).collect();
-    let mut at = raw::RefusedAt::default();
     // SAFETY: each list is passed as its pointer and its length.
-    let is_refused = unsafe {
-        viq_routes_refused_at(
-            interfaces.as_ptr(),
-            interfaces.len(),
-            addresses.as_ptr(),
-            addresses.len(),
-            routes.as_ptr(),
-            routes.len(),
-            &mut at,
-        )
-    };
-    is_refused.then_some(RefusedAt { index: at.index, reason: at.reason })
+    written(|at| unsafe { with_lists!(viq_routes_refused_at(; interfaces, addresses, routes; at)) })
+        .map(RefusedAt::from_c)
 }
 
 /// Which range is refused, and why: after `Refusal::ConfiguredRanges` or `Refusal::BadRanges`.
 pub fn refused_range(ranges: &[Range]) -> Option<RefusedAt> {
     let ranges: Vec<_> = ranges.iter().map(Range::given).collect();
-    let mut at = raw::RefusedAt::default();
     // SAFETY: the list is passed as its pointer and its length.
-    let is_refused = unsafe { viq_ranges_refused_at(ranges.as_ptr(), ranges.len(), &mut at) };
-    is_refused.then_some(RefusedAt { index: at.index, reason: at.reason })
+    written(|at| unsafe { with_lists!(viq_ranges_refused_at(; ranges; at)) }).map(RefusedAt::from_c)
 }
 
 /// Which candidate is refused, and why: after `Refusal::BadCandidates`.
 pub fn refused_candidate(candidates: &[Candidate]) -> Option<RefusedAt> {
     let candidates: Vec<_> = candidates.iter().map(Candidate::given).collect();
-    let mut at = raw::RefusedAt::default();
     // SAFETY: the list is passed as its pointer and its length.
-    let is_refused = unsafe { viq_candidates_refused_at(candidates.as_ptr(), candidates.len(), &mut at) };
-    is_refused.then_some(RefusedAt { index: at.index, reason: at.reason })
+    written(|at| unsafe { with_lists!(viq_candidates_refused_at(; candidates; at)) }).map(RefusedAt::from_c)
 }
 
 // ---- what the router answers
@@ -682,18 +712,9 @@ pub enum Asks {
 pub fn report(host: Ipv4Addr, asks: Asks, group: Ipv4Addr, sources: &[Ipv4Addr]) -> Option<Vec<u8>> {
     let sources: Vec<u32> = sources.iter().map(|source| (*source).into()).collect();
     let mut room = vec![0; MOST_BYTES];
+    let (host, asks, group) = (host.into(), asks as u32, group.into());
     // SAFETY: the sources and the room are passed as their pointers and their lengths.
-    let size = unsafe {
-        viq_report(
-            host.into(),
-            asks as u32,
-            group.into(),
-            sources.as_ptr(),
-            sources.len(),
-            room.as_mut_ptr(),
-            room.len(),
-        )
-    };
+    let size = unsafe { with_lists!(viq_report(host, asks, group; sources; room.as_mut_ptr(), room.len())) };
     room.truncate(size);
     (size > 0).then_some(room)
 }
@@ -1021,76 +1042,17 @@ use raw::Draw;
 extern "C" {
     fn viq_version() -> *const c_char;
     fn viq_answer_text(answer: u32) -> *const c_char;
-    fn viq_routes_refused_at(
-        interfaces: *const raw::Interface,
-        interface_count: usize,
-        addresses: *const u32,
-        address_count: usize,
-        routes: *const raw::Route,
-        count: usize,
-        at: *mut raw::RefusedAt,
-    ) -> bool;
-    fn viq_ranges_refused_at(ranges: *const raw::Range, count: usize, at: *mut raw::RefusedAt) -> bool;
-    fn viq_candidates_refused_at(candidates: *const raw::Candidate, count: usize, at: *mut raw::RefusedAt) -> bool;
     fn viq_refused_text(reason: u32) -> *const c_char;
     fn viq_message(packet: *const u8, length: usize) -> u32;
     fn viq_message_text(message: u32) -> *const c_char;
-    fn viq_report(
-        host: u32,
-        kind: u32,
-        group: u32,
-        sources: *const u32,
-        count: usize,
-        room: *mut u8,
-        room_length: usize,
-    ) -> usize;
-    fn viq_new(
-        router: *mut *mut c_void,
-        abi: u32,
-        settings: *const raw::Settings,
-        interfaces: *const raw::Interface,
-        interface_count: usize,
-        routes: *const raw::Route,
-        route_count: usize,
-        ranges: *const raw::Range,
-        range_count: usize,
-    ) -> u32;
-    fn viq_reload(
-        router: *mut c_void,
-        settings: *const raw::Settings,
-        interfaces: *const raw::Interface,
-        interface_count: usize,
-        routes: *const raw::Route,
-        route_count: usize,
-        ranges: *const raw::Range,
-        range_count: usize,
-        draw: Draw,
-    ) -> u32;
-    fn viq_reload_places(
-        router: *mut c_void,
-        settings: *const raw::Settings,
-        interfaces: *const raw::Interface,
-        interface_count: usize,
-        routes: *const raw::Route,
-        route_count: usize,
-        ranges: *const raw::Range,
-        range_count: usize,
-        places: *const u32,
-        place_count: usize,
-        draw: Draw,
-    ) -> u32;
     fn viq_save(router: *const c_void, room: *mut u8, room_length: usize, size: *mut usize) -> u32;
     fn viq_restore(router: *mut *mut c_void, abi: u32, bytes: *const u8, length: usize) -> u32;
     fn viq_end(router: *mut c_void);
     fn viq_advance(router: *mut c_void, moment: u64, draw: Draw) -> u32;
     fn viq_frame(router: *mut c_void, iface: u32, packet: *const u8, length: usize, draw: Draw) -> u32;
-    fn viq_frames(router: *mut c_void, frames: *const raw::Received, count: usize, answers: *mut u32) -> usize;
     fn viq_unicast(router: *mut c_void, packet: *const u8, length: usize, draw: Draw) -> u32;
     fn viq_up(router: *mut c_void, iface: u32, draw: Draw) -> u32;
     fn viq_down(router: *mut c_void, iface: u32, draw: Draw) -> u32;
-    fn viq_routes(router: *mut c_void, routes: *const raw::Route, count: usize, draw: Draw) -> u32;
-    fn viq_ranges(router: *mut c_void, ranges: *const raw::Range, count: usize, draw: Draw) -> u32;
-    fn viq_candidates(router: *mut c_void, candidates: *const raw::Candidate, count: usize, draw: Draw) -> u32;
     fn viq_packets(router: *const c_void) -> usize;
     fn viq_take(router: *mut c_void, packet: *mut raw::Packet, room: *mut u8, room_length: usize) -> bool;
     fn viq_clear(router: *mut c_void);
@@ -1102,7 +1064,6 @@ extern "C" {
     fn viq_older(router: *mut c_void, iface: u32, hosts: u32) -> u32;
     fn viq_query_version(router: *mut c_void, iface: u32, version: u32) -> u32;
     fn viq_guard(router: *mut c_void, on: u32) -> u32;
-    fn viq_anycast(router: *mut c_void, sets: *const raw::RpSet, count: usize) -> u32;
     fn viq_older_read(router: *mut c_void) -> u32;
     fn viq_older_rows(router: *const c_void) -> usize;
     fn viq_older_row(router: *const c_void, index: usize, row: *mut raw::OlderRow) -> bool;
@@ -1120,6 +1081,47 @@ extern "C" {
     fn viq_sum(router: *const c_void) -> u32;
     fn viq_probes(router: *const c_void) -> u64;
     fn viq_touched(router: *const c_void) -> u64;
+}
+
+list_calls! {
+    viq_routes_refused_at(; raw::Interface, u32, raw::Route; at: *mut raw::RefusedAt) -> bool;
+    viq_ranges_refused_at(; raw::Range; at: *mut raw::RefusedAt) -> bool;
+    viq_candidates_refused_at(; raw::Candidate; at: *mut raw::RefusedAt) -> bool;
+    viq_report(host: u32, kind: u32, group: u32; u32; room: *mut u8, room_length: usize) -> usize;
+    viq_new(
+        router: *mut *mut c_void, abi: u32, settings: *const raw::Settings; raw::Interface, raw::Route, raw::Range;
+    ) -> u32;
+    viq_reload(
+        router: *mut c_void, settings: *const raw::Settings; raw::Interface, raw::Route, raw::Range; draw: Draw
+    ) -> u32;
+    viq_reload_places(
+        router: *mut c_void, settings: *const raw::Settings; raw::Interface, raw::Route, raw::Range, u32; draw: Draw
+    ) -> u32;
+    viq_frames(router: *mut c_void; raw::Received; answers: *mut u32) -> usize;
+    viq_routes(router: *mut c_void; raw::Route; draw: Draw) -> u32;
+    viq_ranges(router: *mut c_void; raw::Range; draw: Draw) -> u32;
+    viq_candidates(router: *mut c_void; raw::Candidate; draw: Draw) -> u32;
+    viq_anycast(router: *mut c_void; raw::RpSet;) -> u32;
+}
+
+/// What a call of C writes, where it answers that there is something.
+fn written<T: Default>(call: impl FnOnce(&mut T) -> bool) -> Option<T> {
+    let mut told = T::default();
+    call(&mut told).then_some(told)
+}
+
+/// So many rows, each of which a call of C writes by its number.
+fn all_written<T: Default, R>(count: usize, call: impl Fn(usize, &mut T) -> bool, of: impl Fn(T) -> R) -> Vec<R> {
+    (0..count).filter_map(|index| written(|row| call(index, row))).map(of).collect()
+}
+
+/// What a call of C makes, and where it lies.
+fn made(call: impl FnOnce(&mut *mut c_void) -> u32) -> Result<NonNull<c_void>, Error> {
+    let mut made = null_mut();
+    match (call(&mut made), NonNull::new(made)) {
+        (DONE, Some(at)) => Ok(at),
+        (answer, _) => Err(Error::of(answer)),
+    }
 }
 
 /// Places as C takes them. No number that is close to that of no place is of an interface.
@@ -1174,26 +1176,10 @@ impl Router {
         routes: &[Route],
         ranges: &[Range],
     ) -> Result<Router, Error> {
-        let mut made = null_mut();
-        let addresses = settings.given_addresses();
-        let interfaces: Vec<_> = interfaces.iter().map(Interface::given).collect();
-        let routes: Vec<_> = routes.iter().map(Route::given).collect();
-        let ranges: Vec<_> = ranges.iter().map(Range::given).collect();
+        let to = Given::of(settings, interfaces, routes, ranges);
         // SAFETY: each list is passed as its pointer and its length, and what points to the router is only written.
-        let answer = unsafe {
-            viq_new(
-                &mut made,
-                ABI,
-                &settings.given(&addresses),
-                interfaces.as_ptr(),
-                interfaces.len(),
-                routes.as_ptr(),
-                routes.len(),
-                ranges.as_ptr(),
-                ranges.len(),
-            )
-        };
-        Router::made(made, answer)
+        made(|at| unsafe { with_lists!(viq_new(at, ABI, &to.settings; to.interfaces, to.routes, to.ranges;)) })
+            .map(Router)
     }
 
     /// Puts the router under another configuration, which is given whole, as to `new`. Interfaces are numbered in the order
@@ -1211,24 +1197,9 @@ impl Router {
         ranges: &[Range],
         draw: u32,
     ) -> Result<(), Error> {
-        let addresses = settings.given_addresses();
-        let interfaces: Vec<_> = interfaces.iter().map(Interface::given).collect();
-        let routes: Vec<_> = routes.iter().map(Route::given).collect();
-        let ranges: Vec<_> = ranges.iter().map(Range::given).collect();
+        let (to, draw) = (Given::of(settings, interfaces, routes, ranges), Draw { bits: draw });
         // SAFETY: the router is there and borrowed alone; each list is passed as its pointer and its length.
-        done(unsafe {
-            viq_reload(
-                self.at_mut(),
-                &settings.given(&addresses),
-                interfaces.as_ptr(),
-                interfaces.len(),
-                routes.as_ptr(),
-                routes.len(),
-                ranges.as_ptr(),
-                ranges.len(),
-                Draw { bits: draw },
-            )
-        })
+        done(unsafe { with_lists!(viq_reload(self.at_mut(), &to.settings; to.interfaces, to.routes, to.ranges; draw)) })
     }
 
     /// Puts the router under another configuration whose interfaces may be left out, added or in another order. `places`
@@ -1248,26 +1219,11 @@ impl Router {
         places: &[Option<u32>],
         draw: u32,
     ) -> Result<(), Error> {
-        let addresses = settings.given_addresses();
-        let interfaces: Vec<_> = interfaces.iter().map(Interface::given).collect();
-        let routes: Vec<_> = routes.iter().map(Route::given).collect();
-        let ranges: Vec<_> = ranges.iter().map(Range::given).collect();
+        let (to, draw) = (Given::of(settings, interfaces, routes, ranges), Draw { bits: draw });
         let places = given_places(places);
         // SAFETY: the router is there and borrowed alone; each list is passed as its pointer and its length.
         done(unsafe {
-            viq_reload_places(
-                self.at_mut(),
-                &settings.given(&addresses),
-                interfaces.as_ptr(),
-                interfaces.len(),
-                routes.as_ptr(),
-                routes.len(),
-                ranges.as_ptr(),
-                ranges.len(),
-                places.as_ptr(),
-                places.len(),
-                Draw { bits: draw },
-            )
+            with_lists!(viq_reload_places(self.at_mut(), &to.settings; to.interfaces, to.routes, to.ranges, places; draw))
         })
     }
 
@@ -1275,17 +1231,8 @@ impl Router {
     /// and packets, once `set_rp_sets`, `set_older_hosts` and `set_query_version` have set what they had. It has nothing to
     /// send, and its guard is on. Bytes that are no saved state of a router are refused, whatever they are.
     pub fn restore(saved: &[u8]) -> Result<Router, Error> {
-        let mut made = null_mut();
         // SAFETY: the bytes are passed as their pointer and their length, and what points to the router is only written.
-        let answer = unsafe { viq_restore(&mut made, ABI, saved.as_ptr(), saved.len()) };
-        Router::made(made, answer)
-    }
-
-    fn made(made: *mut c_void, answer: u32) -> Result<Router, Error> {
-        match NonNull::new(made) {
-            Some(router) if answer == DONE => Ok(Router(router)),
-            _ => Err(Error::of(answer)),
-        }
+        made(|at| unsafe { viq_restore(at, ABI, saved.as_ptr(), saved.len()) }).map(Router)
     }
 
     /// The state of the router as bytes, of which `restore` makes a router that goes on from it. What isn't in them:
@@ -1360,7 +1307,7 @@ impl Router {
         let mut answers = vec![DONE; given.len()];
         // SAFETY: the router is there and borrowed alone; the list is passed as its pointer and its length, each packet in
         // it too, and there are as many answers.
-        let count = unsafe { viq_frames(self.at_mut(), given.as_ptr(), given.len(), answers.as_mut_ptr()) };
+        let count = unsafe { with_lists!(viq_frames(self.at_mut(); given; answers.as_mut_ptr())) };
         answers.into_iter().take(count).map(verdict).collect()
     }
 
@@ -1386,14 +1333,14 @@ impl Router {
     pub fn set_routes(&mut self, routes: &[Route], draw: u32) -> Result<Verdict, Error> {
         let given: Vec<_> = routes.iter().map(Route::given).collect();
         // SAFETY: the router is there and borrowed alone; the list is passed as its pointer and its length.
-        verdict(unsafe { viq_routes(self.at_mut(), given.as_ptr(), given.len(), Draw { bits: draw }) })
+        verdict(unsafe { with_lists!(viq_routes(self.at_mut(); given; Draw { bits: draw })) })
     }
 
     /// All RP ranges are replaced.
     pub fn set_ranges(&mut self, ranges: &[Range], draw: u32) -> Result<Verdict, Error> {
         let given: Vec<_> = ranges.iter().map(Range::given).collect();
         // SAFETY: as of `set_routes`.
-        verdict(unsafe { viq_ranges(self.at_mut(), given.as_ptr(), given.len(), Draw { bits: draw }) })
+        verdict(unsafe { with_lists!(viq_ranges(self.at_mut(); given; Draw { bits: draw })) })
     }
 
     /// All candidate RPs are replaced, at most 256; a new router has none. The RP ranges stay, as the candidates do with
@@ -1402,7 +1349,7 @@ impl Router {
     pub fn set_candidates(&mut self, candidates: &[Candidate], draw: u32) -> Result<Verdict, Error> {
         let given: Vec<_> = candidates.iter().map(Candidate::given).collect();
         // SAFETY: as of `set_routes`.
-        verdict(unsafe { viq_candidates(self.at_mut(), given.as_ptr(), given.len(), Draw { bits: draw }) })
+        verdict(unsafe { with_lists!(viq_candidates(self.at_mut(); given; Draw { bits: draw })) })
     }
 
     // ---- what is to be sent
@@ -1476,40 +1423,35 @@ impl Router {
     /// How data of a source to a group is forwarded, as the forwarding cache has it; `None` where there is no fact of
     /// the source.
     pub fn cached(&self, source: Ipv4Addr, group: Ipv4Addr) -> Option<Forwarding> {
-        let mut told = Forwarding::default();
         // SAFETY: the router is there.
-        unsafe { viq_cached(self.at(), source.into(), group.into(), &mut told) }.then_some(told)
+        written(|told| unsafe { viq_cached(self.at(), source.into(), group.into(), told) })
     }
 
     // ---- trees and links: each macro of RFC 7761, evaluated anew; all are `None` for a lost router
 
     /// The macros of (\*,G) of any group.
     pub fn tree(&self, group: Ipv4Addr) -> Option<Tree> {
-        let mut told = trees::raw::Tree::default();
         // SAFETY: the router is there.
-        unsafe { viq_tree(self.at(), group.into(), &mut told) }.then(|| Tree::from_c(told))
+        written(|told| unsafe { viq_tree(self.at(), group.into(), told) }).map(Tree::from_c)
     }
 
     /// The macros of (S,G) and of (S,G,rpt) of any source of any group, whether it has a fact or not.
     pub fn source_tree(&self, source: Ipv4Addr, group: Ipv4Addr) -> Option<SourceTree> {
-        let mut told = trees::raw::SourceTree::default();
         // SAFETY: the router is there.
-        unsafe { viq_source_tree(self.at(), source.into(), group.into(), &mut told) }.then(|| SourceTree::from_c(told))
+        written(|told| unsafe { viq_source_tree(self.at(), source.into(), group.into(), told) }).map(SourceTree::from_c)
     }
 
     /// An interface with its DR and its querier; `None` also where it isn't configured.
     pub fn link(&self, iface: u32) -> Option<Link> {
-        let mut told = trees::raw::Link::default();
         // SAFETY: the router is there.
-        unsafe { viq_link(self.at(), iface, &mut told) }.then(|| Link::from_c(told))
+        written(|told| unsafe { viq_link(self.at(), iface, told) }).map(Link::from_c)
     }
 
     /// A neighbour with the options of its last Hello; `None` also where there is none of this address. The table of
     /// neighbours lists them.
     pub fn neighbour(&self, iface: u32, address: Ipv4Addr) -> Option<Neighbour> {
-        let mut told = trees::raw::Neighbour::default();
         // SAFETY: the router is there.
-        unsafe { viq_neighbour(self.at(), iface, address.into(), &mut told) }.then(|| Neighbour::from_c(told))
+        written(|told| unsafe { viq_neighbour(self.at(), iface, address.into(), told) }).map(Neighbour::from_c)
     }
 
     /// Sets whether the guard is on, as it is in a new router. It stops by `Reason::Guarded` what would be forwarded as
@@ -1530,7 +1472,7 @@ impl Router {
         let given = given_sets(sets, &others);
         // SAFETY: the router is there and borrowed alone; the list, and in it those of others, are passed as their pointers
         // and their lengths.
-        done(unsafe { viq_anycast(self.at_mut(), given.as_ptr(), given.len()) })
+        done(unsafe { with_lists!(viq_anycast(self.at_mut(); given;)) })
     }
 
     // ---- older versions of IGMP
@@ -1554,37 +1496,25 @@ impl Router {
     pub fn older_rows(&mut self) -> Result<Vec<OlderRow>, Error> {
         // SAFETY: the router is there and borrowed alone.
         done(unsafe { viq_older_read(self.at_mut()) })?;
+        let at = self.at();
         // SAFETY: the router is there.
-        let count = unsafe { viq_older_rows(self.at()) };
-        Ok((0..count).filter_map(|index| self.older_row(index)).collect())
-    }
-
-    fn older_row(&self, index: usize) -> Option<OlderRow> {
-        let mut row = raw::OlderRow::default();
-        // SAFETY: the router is there.
-        unsafe { viq_older_row(self.at(), index, &mut row) }.then(|| OlderRow::from_c(row))
+        Ok(unsafe { all_written(viq_older_rows(at), |index, row| viq_older_row(at, index, row), OlderRow::from_c) })
     }
 
     // ---- a data plane: `include/viqeshor/plane.h` says what one owes
 
     /// What a data plane may do with the packets of a source to a group; `None` where all are the router's.
     pub fn offload(&self, source: Ipv4Addr, group: Ipv4Addr) -> Option<PlaneRow> {
-        let mut row = PlaneRow::default();
         // SAFETY: the router is there.
-        unsafe { viq_offload(self.at(), source.into(), group.into(), &mut row) }.then_some(row)
+        written(|row| unsafe { viq_offload(self.at(), source.into(), group.into(), row) })
     }
 
     /// The sources whose rows may have changed at the last event, each once, ascending by group and then by source.
     pub fn changed(&self) -> Vec<SourceGroup> {
         // SAFETY: the router is there.
-        let count = unsafe { viq_changed(self.at()) };
-        (0..count).filter_map(|index| self.changed_source(index)).collect()
-    }
-
-    fn changed_source(&self, index: usize) -> Option<SourceGroup> {
-        let mut name = SourceGroup::default();
-        // SAFETY: the router is there.
-        unsafe { viq_changed_source(self.at(), index, &mut name) }.then_some(name)
+        let changed = |index: usize, name: &mut _| unsafe { viq_changed_source(self.at(), index, name) };
+        // SAFETY: as above.
+        all_written(unsafe { viq_changed(self.at()) }, changed, |name| name)
     }
 
     /// Whether what `offload` returns for a source, with a fact or without one, may have changed at the last event.

@@ -1,6 +1,7 @@
 //! Records of what a router took (docs/LIBRARY.md, "A recording").
 use crate::{
-    done, given_others, given_places, given_sets, raw, Candidate, Error, Interface, Range, Route, RpSet, Settings,
+    done, given_others, given_places, given_sets, raw, Candidate, Error, Given, Interface, Range, Route, RpSet,
+    Settings,
 };
 
 /// A call that a router took, and what it answered. A field that its kind of call doesn't have isn't read.
@@ -27,74 +28,21 @@ pub struct Call {
     pub sum: u32,
 }
 
-extern "C" {
-    fn viq_record(
-        call: *const Call,
-        packet: *const u8,
-        length: usize,
-        room: *mut u8,
-        room_length: usize,
-        size: *mut usize,
+list_calls! {
+    viq_record(call: *const Call; u8; room: *mut u8, room_length: usize, size: *mut usize) -> u32;
+    viq_record_routes(call: *const Call; raw::Route; room: *mut u8, room_length: usize, size: *mut usize) -> u32;
+    viq_record_ranges(call: *const Call; raw::Range; room: *mut u8, room_length: usize, size: *mut usize) -> u32;
+    viq_record_candidates(
+        call: *const Call; raw::Candidate; room: *mut u8, room_length: usize, size: *mut usize
     ) -> u32;
-    fn viq_record_routes(
-        call: *const Call,
-        routes: *const raw::Route,
-        count: usize,
-        room: *mut u8,
-        room_length: usize,
-        size: *mut usize,
+    viq_record_anycast(call: *const Call; raw::RpSet; room: *mut u8, room_length: usize, size: *mut usize) -> u32;
+    viq_record_reload(
+        call: *const Call, settings: *const raw::Settings; raw::Interface, raw::Route, raw::Range;
+        room: *mut u8, room_length: usize, size: *mut usize
     ) -> u32;
-    fn viq_record_ranges(
-        call: *const Call,
-        ranges: *const raw::Range,
-        count: usize,
-        room: *mut u8,
-        room_length: usize,
-        size: *mut usize,
-    ) -> u32;
-    fn viq_record_candidates(
-        call: *const Call,
-        candidates: *const raw::Candidate,
-        count: usize,
-        room: *mut u8,
-        room_length: usize,
-        size: *mut usize,
-    ) -> u32;
-    fn viq_record_anycast(
-        call: *const Call,
-        sets: *const raw::RpSet,
-        count: usize,
-        room: *mut u8,
-        room_length: usize,
-        size: *mut usize,
-    ) -> u32;
-    fn viq_record_reload(
-        call: *const Call,
-        settings: *const raw::Settings,
-        interfaces: *const raw::Interface,
-        interface_count: usize,
-        routes: *const raw::Route,
-        route_count: usize,
-        ranges: *const raw::Range,
-        range_count: usize,
-        room: *mut u8,
-        room_length: usize,
-        size: *mut usize,
-    ) -> u32;
-    fn viq_record_reload_places(
-        call: *const Call,
-        settings: *const raw::Settings,
-        interfaces: *const raw::Interface,
-        interface_count: usize,
-        routes: *const raw::Route,
-        route_count: usize,
-        ranges: *const raw::Range,
-        range_count: usize,
-        places: *const u32,
-        place_count: usize,
-        room: *mut u8,
-        room_length: usize,
-        size: *mut usize,
+    viq_record_reload_places(
+        call: *const Call, settings: *const raw::Settings; raw::Interface, raw::Route, raw::Range, u32;
+        room: *mut u8, room_length: usize, size: *mut usize
     ) -> u32;
 }
 
@@ -119,7 +67,7 @@ impl Call {
     pub fn put(&self, packet: &[u8], to: &mut Vec<u8>) -> Result<(), Error> {
         put(to, packet.len() + 64, |room, size| {
             // SAFETY: the packet and the room are passed as their pointers and their lengths.
-            unsafe { viq_record(self, packet.as_ptr(), packet.len(), room.as_mut_ptr(), room.len(), size) }
+            unsafe { with_lists!(viq_record(self; packet; room.as_mut_ptr(), room.len(), size)) }
         })
     }
 
@@ -128,7 +76,7 @@ impl Call {
         let routes: Vec<_> = routes.iter().map(Route::given).collect();
         put(to, 24 * routes.len() + 64, |room, size| {
             // SAFETY: the list and the room are passed as their pointers and their lengths.
-            unsafe { viq_record_routes(self, routes.as_ptr(), routes.len(), room.as_mut_ptr(), room.len(), size) }
+            unsafe { with_lists!(viq_record_routes(self; routes; room.as_mut_ptr(), room.len(), size)) }
         })
     }
 
@@ -137,7 +85,7 @@ impl Call {
         let ranges: Vec<_> = ranges.iter().map(Range::given).collect();
         put(to, 12 * ranges.len() + 64, |room, size| {
             // SAFETY: the list and the room are passed as their pointers and their lengths.
-            unsafe { viq_record_ranges(self, ranges.as_ptr(), ranges.len(), room.as_mut_ptr(), room.len(), size) }
+            unsafe { with_lists!(viq_record_ranges(self; ranges; room.as_mut_ptr(), room.len(), size)) }
         })
     }
 
@@ -145,9 +93,8 @@ impl Call {
     pub fn put_candidates(&self, candidates: &[Candidate], to: &mut Vec<u8>) -> Result<(), Error> {
         let candidates: Vec<_> = candidates.iter().map(Candidate::given).collect();
         put(to, 20 * candidates.len() + 64, |room, size| {
-            let (at, count) = (candidates.as_ptr(), candidates.len());
             // SAFETY: the list and the room are passed as their pointers and their lengths.
-            unsafe { viq_record_candidates(self, at, count, room.as_mut_ptr(), room.len(), size) }
+            unsafe { with_lists!(viq_record_candidates(self; candidates; room.as_mut_ptr(), room.len(), size)) }
         })
     }
 
@@ -157,7 +104,7 @@ impl Call {
         let given = given_sets(sets, &others);
         put(to, 32 * given.len() + 64, |room, size| {
             // SAFETY: the list, those of others in it, and the room are passed as their pointers and their lengths.
-            unsafe { viq_record_anycast(self, given.as_ptr(), given.len(), room.as_mut_ptr(), room.len(), size) }
+            unsafe { with_lists!(viq_record_anycast(self; given; room.as_mut_ptr(), room.len(), size)) }
         })
     }
 
@@ -170,29 +117,14 @@ impl Call {
         ranges: &[Range],
         to: &mut Vec<u8>,
     ) -> Result<(), Error> {
-        let addresses = settings.given_addresses();
-        let interfaces: Vec<_> = interfaces.iter().map(Interface::given).collect();
-        let routes: Vec<_> = routes.iter().map(Route::given).collect();
-        let ranges: Vec<_> = ranges.iter().map(Range::given).collect();
+        let Given { settings, interfaces, routes, ranges, .. } = &Given::of(settings, interfaces, routes, ranges);
         put(to, 20 * interfaces.len() + 24 * routes.len() + 12 * ranges.len() + 192, |room, size| {
+            let (at, length) = (room.as_mut_ptr(), room.len());
             // SAFETY: each list and the room are passed as their pointers and their lengths.
-            unsafe {
-                viq_record_reload(
-                    self,
-                    &settings.given(&addresses),
-                    interfaces.as_ptr(),
-                    interfaces.len(),
-                    routes.as_ptr(),
-                    routes.len(),
-                    ranges.as_ptr(),
-                    ranges.len(),
-                    room.as_mut_ptr(),
-                    room.len(),
-                    size,
-                )
-            }
+            unsafe { with_lists!(viq_record_reload(self, settings; interfaces, routes, ranges; at, length, size)) }
         })
     }
+
     /// Puts the record of another configuration by a map of places, as `Router::reload_places` takes it, behind others.
     pub fn put_reload_places(
         &self,
@@ -203,30 +135,16 @@ impl Call {
         places: &[Option<u32>],
         to: &mut Vec<u8>,
     ) -> Result<(), Error> {
-        let addresses = settings.given_addresses();
-        let interfaces: Vec<_> = interfaces.iter().map(Interface::given).collect();
-        let routes: Vec<_> = routes.iter().map(Route::given).collect();
-        let ranges: Vec<_> = ranges.iter().map(Range::given).collect();
+        let Given { settings, interfaces, routes, ranges, .. } = &Given::of(settings, interfaces, routes, ranges);
         let places = given_places(places);
         let least = 20 * interfaces.len() + 24 * routes.len() + 12 * ranges.len() + 4 * places.len() + 192;
         put(to, least, |room, size| {
+            let (at, length) = (room.as_mut_ptr(), room.len());
             // SAFETY: each list and the room are passed as their pointers and their lengths.
             unsafe {
-                viq_record_reload_places(
-                    self,
-                    &settings.given(&addresses),
-                    interfaces.as_ptr(),
-                    interfaces.len(),
-                    routes.as_ptr(),
-                    routes.len(),
-                    ranges.as_ptr(),
-                    ranges.len(),
-                    places.as_ptr(),
-                    places.len(),
-                    room.as_mut_ptr(),
-                    room.len(),
-                    size,
-                )
+                with_lists!(viq_record_reload_places(
+                    self, settings; interfaces, routes, ranges, places; at, length, size
+                ))
             }
         })
     }

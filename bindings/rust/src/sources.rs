@@ -1,5 +1,5 @@
 //! Sources of other RPs (MSDP, RFC 3618): the joint of its sessions, which are a program's, to the router.
-use crate::{done, verdict, Draw, Error, Router, SourceGroup, Verdict, MOST_BYTES};
+use crate::{done, verdict, written, Draw, Error, Router, SourceGroup, Verdict, MOST_BYTES};
 use std::ffi::c_void;
 use std::net::Ipv4Addr;
 
@@ -79,9 +79,8 @@ impl Router {
     /// The source that a packet of `unicast` registers, if it is a DR's Register to the RP of its group, an address of the
     /// router's. An RP tells its peers of the source for as long as Registers come, at least one every 90 s.
     pub fn registered(&self, packet: &[u8]) -> Option<SourceGroup> {
-        let mut name = SourceGroup::default();
         // SAFETY: the router is there; the packet is passed as its pointer and its length.
-        unsafe { viq_registered(self.at(), packet.as_ptr(), packet.len(), &mut name) }.then_some(name)
+        written(|name| unsafe { viq_registered(self.at(), packet.as_ptr(), packet.len(), name) })
     }
 
     /// Whether a source is on a link of which the router is the DR, sends, and has the router as the RP of its group: an RP

@@ -110,6 +110,13 @@ fn elected() -> Node {
 }
 
 #[test]
+fn a_candidate_without_a_priority_says_64() {
+    let mut node = Node::new(Some(&CandidateBsr::new(address(OWN))), None);
+    node.run_to(6_000);
+    assert_eq!((places(&node.said()), node.bsr.elected().map(|it| it.priority)), (BOTH.to_vec(), Some(64)));
+}
+
+#[test]
 fn a_candidate_without_others_is_elected() {
     let mut node = Node::new(Some(&as_bsr()), Some(&as_rp()));
     assert_eq!((node.role(), node.told()), (Some((Role::Pending, 6_000)), None));

@@ -50,7 +50,7 @@ module _ (d : ℕ) (started : ℕ → ℕ) (t : Traffic) (link : ℕ) (members :
 
   module _ (y : Member) (among : IsOne members y) (number : ℕ) where
     -- a frame that hasn't come yet hasn't by the next move, or comes by it
-    waits : (came : Arrivals) (n : Network) (m : Move) (ms : List Move) → Carried came n (m ∷ ms) → came y.router y.iface < number
+    pub waits : (came : Arrivals) (n : Network) (m : Move) (ms : List Move) → Carried came n (m ∷ ms) → came y.router y.iface < number
         → IsFor t link y.router n number → Brought y m ⊎ (arrived came m y.router y.iface < number)
         → ((f : Brought y m) → f.number ≡ number → ⊥) → arrived came m y.router y.iface < number
     waits came n m ms f lt its (inr later) other = later

@@ -2,8 +2,8 @@
 use Rattle.std.{proofs.{Common.{Bool, List, None, Option, Some, [], ap, arith, false, inl, inr, length, nat_le, nat_lt, refl, subst, sym, true, ℕ, ◌*◌, ◌+◌, ◌<◌, ◌==◌, ◌∙◌, ◌∷◌, ◌≡◌, ◌≤◌, ◌⊎◌}, lemmas.Bool.Decides.nat_tests}}
 use Rattle.pim_types.{specs.declared.{event.Event.Event, fact.JoinTimerRow.JoinTimerRow}}
 use Rattle.pim_model.{specs.{Network.{Deliver, Move, Network, Station, event_of, frame_at, moved, moved_at, station_at}, Step.step, Tables.row_at}}
-use Rattle.law_streams.{proofs.{Deliveries.is_stepped, Pairs.{Steps, one_router, ready_then, same_station}, Shared.{Known, all_above, all_in_time, frames_come_to_both, known_on, none_known, present_later}}, specs.{InTimeJoins.{Always, AreInTime, AreThere, ComesBy, IsBy, IsJoin, IsReady, Join, Pair, entry_of, frame_of, join_key, most_late, most_late_shared, prunes_of, time_at}, Joins.IsWritable, Shared.{AreOnLink, ComesFrom, IsAbove, IsSeenFrom, frame_from}}}
-use Rattle.law_converges.{proofs.{Carried.{IsCarriedOn, carried_on, frame_comes, sent_comes}, CarriedLinks.in_time, JoinedWays.{Over, all_past, soon_then}, LinkJoins.first_of, Prompt.join_end, TakesOver.moved_so}, specs.{Carried.{Arrivals, ComesInTurn, EachMove, IsCarried, Traffic, arrived}, CarriedLinks.{HearsJoins, JoinKeeps, SeesJoin, pair_of}, JoinedWays.AreTogether, LinkDr.{IsOne, Member}, Past.HoldsPastOn}}
+use Rattle.law_streams.{proofs.{Deliveries.is_stepped, Pairs.{Steps, one_router, ready_then, same_station}, Shared.{Known, all_in_time, frames_come_to_both, known_on, none_known, present_later}}, specs.{InTimeJoins.{Always, AreInTime, ComesBy, IsBy, IsJoin, IsReady, Join, Pair, entry_of, frame_of, join_key, most_late, most_late_shared, prunes_of, time_at}, Joins.IsWritable, Shared.{AreOnLink, ComesFrom, IsAbove, IsSeenFrom, frame_from}}}
+use Rattle.law_converges.{proofs.{Carried.{IsCarriedOn, carried_on, frame_comes, sent_comes}, CarriedLinks.in_time, JoinedWays.{Over, all_past, soon_then}, JoinsOverRpf.all_above, LinkJoins.first_of, Prompt.join_end, TakesOver.moved_so}, specs.{Carried.{Arrivals, ComesInTurn, EachMove, IsCarried, Traffic, arrived}, CarriedLinks.{HearsJoins, JoinKeeps, SeesJoin, pair_of}, JoinedWays.AreTogether, LinkDr.{IsOne, Member}, Past.HoldsPastOn, RpfJoins.IsNextHop}}
 
 -- a delivery is an event at its router
 pub delivered_at : (n : Network) (r i k draw q : ℕ) (e : Event) → event_of n (Deliver r i k draw) ≡ Some (q, e) → r ≡ q
@@ -162,7 +162,7 @@ module _ (x : Join) (g d late : ℕ) (started : ℕ → ℕ) (t : Traffic) (link
   -- ---- throughout
 
   pub in_time_throughout : IsJoin x g → d < most_late → (n : Network) (ms : List Move) (came : Arrivals) → length n.frames ≡ first
-      → IsReady low.router n → IsReady up.router n → IsCarried d late started t came link members first n ms → Always (AreThere x g c) n ms
+      → IsReady low.router n → IsReady up.router n → IsCarried d late started t came link members first n ms → Always (IsNextHop x g c) n ms
       → EachMove (JoinKeeps x g t c) n ms → EachMove (HearsJoins x g c) n ms → AreInTime x g d started c n ms
   in_time_throughout isg soon n ms came same below above f there keeps hears =
       frames_come_to_both x g d started t.sent c n ms isg soon above (all_above x g c ms n there)

@@ -104,7 +104,7 @@ module _ (d late : ℕ) (started : ℕ → ℕ) (t : Traffic) (link : ℕ) (memb
             (querier_end (λ (end : ℕ). IsBy started q (end + started x.router + late) (moved n m).1) st.state (on.prompt x.router q st at)
             x.iface row is)
 
-    asserts_in_time : (g src : ℕ) (metric : AssertMetric) (ms : List Move) (n : Network) (came : Arrivals)
+    pub asserts_in_time : (g src : ℕ) (metric : AssertMetric) (ms : List Move) (n : Network) (came : Arrivals)
         → IsCarried d late started t came link members first n ms → EachMove (LoserKeeps g src metric c) n ms
         → AssertsInTime g src metric d started c n ms
     asserts_in_time g src metric [] n came f keeps = tt

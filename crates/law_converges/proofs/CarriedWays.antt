@@ -3,8 +3,8 @@ use Rattle.std.{proofs.Common.{Bool, List, Some, [], ap, eq-eqb, eqb-true, false
 use Rattle.pim_types.{specs.Keys.star_key}
 use Rattle.pim_model.{specs.{Network.{Move, Network, Station, moved, station_at}, Tables.row_at}}
 use Rattle.law_events.{specs.Rest.IsAtRest}
-use Rattle.law_streams.{proofs.Pairs.{ready_then, same_station}, specs.{InTimeJoins.{AreThere, IsHeld, IsJoin, IsReady, IsUnlost, Join, Star}, Passing.{Receiver, Tree}}}
-use Rattle.law_converges.{proofs.{CarriedNetwork.{carried_network_settles, one_lan}, ComesOnce.each_packet_comes_once, NothingElse.nothing_else_comes, PassedOnce.passes, Past.{both_past, later_past, same_past, throughout_past}}, specs.{Carried.{Arrivals, Carries, EachMove, Traffic}, CarriedNetwork.{AreOn, HopOn, HopsAreQuiet, IsOneLan, IsQuietPlan, Lan, LanIsQuiet, Plan, WayIsQuiet, WayOver, layout_of, number_of, way_on}, CarriedWays.{AreOnTree, CarriedNetworkBringsNothingElse, CarriedNetworkServesOnce, IsClear, IsOneWay, IsOpen, forwarders, pair_on, root_of}, ComesOnce.{AllCameDown, AreAlonePast, AreForwarding, AreServedOnce, Forwarder, Forwards, HasOneOn, HearsAll, SendsDown, sender_of}, LinkDr.{IsOne, Member}, PassedOnce.IsOnTree, Past.{HoldsPast, HoldsPastOn}, Settles.{HasSettled, Way, routers}}}
+use Rattle.law_streams.{proofs.Pairs.{ready_then, same_station}, specs.{InTimeJoins.{IsHeld, IsJoin, IsReady, IsUnlost, Join, Star}, Passing.{Receiver, Tree}}}
+use Rattle.law_converges.{proofs.{CarriedNetwork.{carried_network_settles, one_lan}, ComesOnce.each_packet_comes_once, NothingElse.nothing_else_comes, PassedOnce.passes, Past.{both_past, later_past, same_past, throughout_past}}, specs.{Carried.{Arrivals, Carries, EachMove, Traffic}, CarriedNetwork.{AreOn, HopOn, HopsAreQuiet, IsOneLan, IsQuietPlan, Lan, LanIsQuiet, Plan, WayIsQuiet, WayOver, layout_of, number_of, way_on}, CarriedWays.{AreOnTree, CarriedNetworkBringsNothingElse, CarriedNetworkServesOnce, IsClear, IsOneWay, IsOpen, forwarders, pair_on, root_of}, ComesOnce.{AllCameDown, AreAlonePast, AreForwarding, AreServedOnce, Forwarder, Forwards, HasOneOn, HearsAll, SendsDown, Stream, sender_of}, LinkDr.{IsOne, Member}, PassedOnce.IsOnTree, Past.{HoldsPast, HoldsPastOn}, RpfJoins.IsNextHop, Settles.{HasSettled, Way, routers}}}
 
 -- ---- lists
 
@@ -54,7 +54,7 @@ module _ (g src rp : ℕ) (h : HopOn) (n : Network) (ready : IsReady (h.upper).r
   }
 
   -- one that has another above it
-  module _ (k : HopOn) (same : (k.lower).router ≡ (h.upper).router) (there : AreThere (Star rp) g (pair_on k) n)
+  module _ (k : HopOn) (same : (k.lower).router ≡ (h.upper).router) (there : IsNextHop (Star rp) g (pair_on k) n)
       (tree : IsOnTree g src (k.lower).iface (pair_on h) n) where
     abbrev last : Forwarder
     last = record {
@@ -62,8 +62,6 @@ module _ (g src rp : ℕ) (h : HopOn) (n : Network) (ready : IsReady (h.upper).r
       above = number_of k.lan;
       down = (h.upper).iface;
       below = number_of h.lan;
-      tree = Tree.Shared;
-      receiver = Receiver.Router;
     }
 
     here : station_at n (k.lower).router ≡ Some tree.station
@@ -73,9 +71,9 @@ module _ (g src rp : ℕ) (h : HopOn) (n : Network) (ready : IsReady (h.upper).r
     forwards_here = record {
       station = tree.station;
       there = here;
-      passes = passes rp g src (k.lower).iface (pair_on h) n tree.station tree.there ready tree held;
+      passes = Stream Tree.Shared Receiver.Router (passes rp g src (k.lower).iface (pair_on h) n tree.station tree.there ready tree held);
       above = subst (λ (z : Station). slice_get z.links (k.lower).iface ≡ Some (number_of k.lan)) (same_station there.below_is (here))
-          (there.goes_up).linked;
+          (there.goes_over).linked;
       below = subst (HasOneOn (h.upper).iface (number_of h.lan)) (same_station clear.there tree.there) clear.one;
     }
 
@@ -85,7 +83,7 @@ module _ (g src rp : ℕ) (h : HopOn) (n : Network) (ready : IsReady (h.upper).r
 pub record HopStands (x : Join) (g limit : ℕ) (started : ℕ → ℕ) (lans : List Lan) (n : Network) (ms : List Move) (h : HopOn) : Type 0 where
   pub among : IsOneLan lans h.lan
   pub on : AreOn h.lan h.lower h.upper
-  pub there : HoldsPast started limit (AreThere x g (pair_on h)) n ms
+  pub there : HoldsPast started limit (IsNextHop x g (pair_on h)) n ms
   pub unlost : HoldsPast started limit (IsUnlost x g (pair_on h)) n ms
 
 -- so it is with each next hop
@@ -103,7 +101,7 @@ stand_throughout x g limit started t lans n ms r (h ∷ hs) f = (
   record {
     among = (f.1).among;
     on = (f.1).on;
-    there = throughout_past started limit (AreThere x g (pair_on h)) ms n (f.1).there;
+    there = throughout_past started limit (IsNextHop x g (pair_on h)) ms n (f.1).there;
     unlost = throughout_past started limit (IsUnlost x g (pair_on h)) ms n (f.1).unlost;
   },
   stand_throughout x g limit started t lans n ms (h.upper).router hs f.2,
@@ -118,7 +116,7 @@ stand_later x g sooner limit started lans n ms le r (h ∷ hs) f = (
   record {
     among = (f.1).among;
     on = (f.1).on;
-    there = later_past started limit sooner le (AreThere x g (pair_on h)) ms n (f.1).there;
+    there = later_past started limit sooner le (IsNextHop x g (pair_on h)) ms n (f.1).there;
     unlost = later_past started limit sooner le (IsUnlost x g (pair_on h)) ms n (f.1).unlost;
   },
   stand_later x g sooner limit started lans n ms le (h.upper).router hs f.2,
@@ -172,25 +170,21 @@ module _ (g src rp d late bound limit : ℕ) (started : ℕ → ℕ) (t : Traffi
         above = number_of k.lan;
         down = (h.upper).iface;
         below = number_of h.lan;
-        tree = Tree.Shared;
-        receiver = Receiver.Router;
       }))
   forwards_past h k q above same held tree =
       both (λ x. IsReady (h.upper).router x × IsHeld (Star rp) g (pair_on h) x)
-      (λ x. AreThere (Star rp) g (pair_on k) x × (IsOnTree g src (k.lower).iface (pair_on h) x × IsClear g src (pair_on h) x))
+      (λ x. IsNextHop (Star rp) g (pair_on k) x × (IsOnTree g src (k.lower).iface (pair_on h) x × IsClear g src (pair_on h) x))
       (Forwards g src (record {
         self = k.lower;
         above = number_of k.lan;
         down = (h.upper).iface;
         below = number_of h.lan;
-        tree = Tree.Shared;
-        receiver = Receiver.Router;
       }))
       (λ x a b. forwards_here g src rp h x a.0 a.1 (b.1).1 k same b.0 (b.1).0)
       (both (IsReady (h.upper).router) (IsHeld (Star rp) g (pair_on h)) (λ x. IsReady (h.upper).router x × IsHeld (Star rp) g (pair_on h) x)
       (λ x a b. (a, b)) (upper_ready h q) held)
-      (both (AreThere (Star rp) g (pair_on k)) (λ x. IsOnTree g src (k.lower).iface (pair_on h) x × IsClear g src (pair_on h) x)
-      (λ x. AreThere (Star rp) g (pair_on k) x × (IsOnTree g src (k.lower).iface (pair_on h) x × IsClear g src (pair_on h) x)) (λ x a b. (a, b))
+      (both (IsNextHop (Star rp) g (pair_on k)) (λ x. IsOnTree g src (k.lower).iface (pair_on h) x × IsClear g src (pair_on h) x)
+      (λ x. IsNextHop (Star rp) g (pair_on k) x × (IsOnTree g src (k.lower).iface (pair_on h) x × IsClear g src (pair_on h) x)) (λ x a b. (a, b))
       above.there tree)
 
   pub way_past : (h : HopOn) (hs : List HopOn) → Quiet h → Rest h hs → PastIt (AreHeldOn (h ∷ hs)) → PastIt (AreOnTree g src h hs)
@@ -208,8 +202,6 @@ module _ (g src rp d late bound limit : ℕ) (started : ℕ → ℕ) (t : Traffi
         above = number_of k.lan;
         down = (h.upper).iface;
         below = number_of h.lan;
-        tree = Tree.Shared;
-        receiver = Receiver.Router;
       }))
       (AreForwarding g src (root_of k ks) (number_of k.lan) (forwarders k ks))
       (AreForwarding g src (root_of h (k ∷ ks)) (number_of h.lan) (forwarders h (k ∷ ks)))

@@ -3,7 +3,7 @@ use Rattle.std.{proofs.Common.{◌≡◌, ℕ, ◌+◌, ◌*◌, List, [], ◌�
 use Rattle.pim_ip.{specs.Ipv4.{header_text, is_link_local, packet_of}}
 use Rattle.pim_types.{specs.declared.event.{Event.Event, EventKind.EventKind}}
 use Rattle.pim_model.{specs.{Network.{At, Move, Network, Sent, Station, event_of, frame_at, moved, network_ran, station_at}}}
-use Rattle.law_streams.{specs.{InTimeJoins.{IsReady, time_at}, Joins.join_packet, Roots.{IsBrought, IsRegister}}, proofs.{Computed.{stand, stands_there}, StreamRoots.each_register_is_brought}}
+use Rattle.law_streams.{specs.{InTimeJoins.{IsReady, time_at}, Joins.join_packet, Passing.Receiver, Roots.{IsBrought, IsRegister}}, proofs.{Computed.{stand, stands_there}, StreamRoots.each_register_is_brought}}
 use Rattle.pim_runs.{specs.{Base.rp, InTime.started, ServedChain.{asked_group, content}}, proofs.OnLiterals.machine_on_literals}
 use Rattle.law_converges.{specs.{Carried.EachMove, CarriedNetworkRun.{before, bound, by_register, lag, moves, none_came, plan, serving, until_then, soon, source_sends, source_there, traffic}, CarriedWays.{AreOnTree, IsClear, pair_on, root_of}, CarriedWaysRun.{PlanBringsNothingElse, PlanIsOpen, PlanServesOnce, its_hop, sent_again, to_host}, ComesOnce.{AreAlonePast, AreServedOnce, ComesOnce, Forwards, IsServedOnce}, Past.{ArePast, HoldsPast, HoldsPastOn}}, proofs.{CarriedNetworkRun.{nearer_ready, nowhere, plan_is_quiet}, CarriedTests.{each_move_so, move_test}, CarriedWays.{carried_network_brings_nothing_else, carried_network_serves_once, ready_past}, Past.both_past, Tested.{past_so, past_test}, WayTests.{alone_so, alone_test, clear_at, clear_so, forwards_at, forwards_so, past_run, past_run_so, takes_so, takes_test}}}
 
@@ -13,7 +13,7 @@ clear_passes : past_run started bound 2 (clear_at asked_group source_there (pair
 unfolding machine_on_literals join_packet
 clear_passes = refl
 
-forwards_passes : past_run started bound 2 (forwards_at asked_group source_there to_host) before moves ≡ true
+forwards_passes : past_run started bound 2 (forwards_at asked_group source_there to_host Receiver.Host) before moves ≡ true
 unfolding machine_on_literals join_packet
 forwards_passes = refl
 
@@ -38,11 +38,11 @@ on_tree =
 
 forwards : HoldsPast started bound (Forwards asked_group source_there to_host) before moves
 forwards =
-    both_past started bound (IsReady 0) (λ n. forwards_at asked_group source_there to_host n ≡ true)
-    (Forwards asked_group source_there to_host) (forwards_so asked_group source_there to_host refl) moves before
+    both_past started bound (IsReady 0) (λ n. forwards_at asked_group source_there to_host Receiver.Host n ≡ true)
+    (Forwards asked_group source_there to_host) (forwards_so asked_group source_there to_host Receiver.Host) moves before
     (ready_past started bound 0 moves before nearer_ready)
-    (past_run_so started bound 2 (forwards_at asked_group source_there to_host)
-    (λ n. forwards_at asked_group source_there to_host n ≡ true) (λ n e. e) moves before forwards_passes)
+    (past_run_so started bound 2 (forwards_at asked_group source_there to_host Receiver.Host)
+    (λ n. forwards_at asked_group source_there to_host Receiver.Host n ≡ true) (λ n e. e) moves before forwards_passes)
 
 both_moves : (P Q R : Network → Move → Type 0) → ((n : Network) (m : Move) → P n m → Q n m → R n m) → (ms : List Move) (n : Network)
     → EachMove P n ms → EachMove Q n ms → EachMove R n ms
@@ -94,7 +94,7 @@ plan_brings_nothing_else =
 -- ---- the second packet
 
 -- what holds past the bound of the moves that follow some
-on_after : (limit : ℕ) (P : Network → List Move → Type 0) (m : Move) (xs ys : List Move) (n : Network)
+pub on_after : (limit : ℕ) (P : Network → List Move → Type 0) (m : Move) (xs ys : List Move) (n : Network)
     → HoldsPastOn started limit P n (m ∷ xs ++ ys) → ArePast started limit (network_ran n (m ∷ xs)).1 → P (network_ran n (m ∷ xs)).1 ys
 unfolding network_ran
 on_after limit P m [] ys n f past = f.0 past
@@ -174,6 +174,6 @@ pub plan_serves_once : PlanServesOnce
 plan_serves_once =
     subst (λ (by : ℕ). ComesOnce asked_group source_there 1 content 13 by traffic (root_of its_hop []) (to_host ∷ []) sent_again by_register serving)
     its_time
-    ((once).served its_event rp_before rp_after content 13 is_event before_there after_there (lit≤ tt) brought
+    ((once).served its_event rp_before rp_after content 13 is_event before_there after_there (lit≤ tt) brought tt
     (subst (λ (by : ℕ). ArePast started by (network_ran (moved sent_again by_register).1 serving).1) (sym its_time)
     (past_so started (λ q r. refl) 402451 (network_ran (moved sent_again by_register).1 serving).1 end_passes)))

@@ -6,13 +6,13 @@ use Rattle.pim_wire.{specs.{Asserts.assert_text, Encoded.pim_text}}
 use Rattle.pim_model.{specs.{declared.accepted.Accepted.Accepted, Asserts.{asserted_metric, theirs_of}, Cause.done_as, Full.is_full, Neighbours.is_neighbour, Network.{Move, Network, Sent, Station, event_of, frame_at, station_at}, Rows.same_metric, Sets.{is_better, is_loser, is_winner, spt_metric}, State.{State, iface_count, is_own, is_up, my_address}, Tables.{row_at, same_option}, Unicast.{is_rpf_interface, is_rpf_interface_rp}}}
 use Rattle.law_events.{proofs.SameRows.metrics}
 use Rattle.law_streams.{specs.{Adjacent.Adjacent, Copies.happens, InTimeJoins.Always}}
-use Rattle.law_converges.{specs.{Carried.EachMove, CarriedLinks.{GivesWay, LoserKeeps, Yields}, LinkAsserts.{IsSayable, assert_packet, gives_way, is_about, key_about, lost_to, said}, LinkLosers.{AssertsBy, KeepsLoss, LosesUntil, Wins, ends_loss, loser_key, reads_assert, survives, winner_key, winner_of}, OneSender.IsOffTree}, proofs.{KeepsTests.{delivered_so, delivery_test}, Tested.{Found, always_so, each_found, else_so, found, le_so, lt_so, moves_so, off_so, or_else, run_test, same_so, then}}}
+use Rattle.law_converges.{specs.{Carried.EachMove, CarriedLinks.{GivesWay, LoserKeeps, Yields}, LinkAsserts.{IsSayable, assert_packet, gives_way, is_about, key_about, loses_to, lost_to, said}, LinkLosers.{AssertsBy, KeepsLoss, LosesUntil, Wins, ends_loss, loser_key, reads_assert, survives, winner_key, winner_of}, OneSender.IsOffTree}, proofs.{KeepsTests.{delivered_so, delivery_test}, Tested.{Found, always_so, each_found, else_so, found, le_so, lt_so, moves_so, off_so, or_else, run_test, same_so, then}}}
 
 -- an Assert, by its version and type behind the header of 20 bytes
-abbrev is_assert : Sent → Bool
+abbrev pub is_assert : Sent → Bool
 is_assert f = same_option (slice_get f.bytes 20) (Some 0x25)
 
-assert_is_assert : (link from g src : ℕ) (m : AssertMetric) → is_assert (record { link = Some link; bytes = assert_packet from g src m }) ≡ true
+pub assert_is_assert : (link from g src : ℕ) (m : AssertMetric) → is_assert (record { link = Some link; bytes = assert_packet from g src m }) ≡ true
 unfolding pim_packet_text header_text with_checksum assert_text pim_text
 assert_is_assert link from g src m = refl
 
@@ -64,10 +64,10 @@ module _ (d bound : ℕ) (started : ℕ → ℕ) (g src : ℕ) (metric : AssertM
       not (is_rpf_interface_rp st.state g c.down) && ((src == 0)
       || (not (is_rpf_interface st.state src c.down) && is_better its_winner (spt_metric st.state src c.down)))
 
-  abbrev off_at : Network → Bool
+  abbrev pub off_at : Network → Bool
   off_at n = option_map_or off_station (station_at n c.upper) false
 
-  off_tree_so : (n : Network) → off_at n ≡ true → IsOffTree g src metric c n
+  pub off_tree_so : (n : Network) → off_at n ≡ true → IsOffTree g src metric c n
   off_tree_so n e =
       let f : Found Station off_station (station_at n c.upper) = found Station off_station (station_at n c.upper) e in
       then f.passes (λ group source. record {
@@ -81,15 +81,12 @@ module _ (d bound : ℕ) (started : ℕ → ℕ) (g src : ℕ) (metric : AssertM
       other : (a b : Bool) → a ≡ false → (a || b) ≡ true → b ≡ true
       other a b e f = grind arith
 
-  abbrev can_row : Station → AssertRow → Bool
-  can_row st row = gives_way st.state (loser_key g src metric c) row (theirs_of (said g src metric) c.address)
-
   abbrev gives_at : (draw : ℕ) → Station → Bool
   gives_at draw st =
       nat_lt c.down (iface_count st.state) && (is_up st.state c.down && (is_neighbour st.state c.down c.address && (not (is_own st.state c.address)
       && (same_option (slice_get st.links c.down) (Some c.link)
       && (not (is_full st.state (Accepted.Assert (record { number = c.down }) (addr c.address) (said g src metric)))
-      && (option_map_or (can_row st) (row_at (st.state).asserts (loser_key g src metric c)) false
+      && (loses_to st.state (loser_key g src metric c) its_winner
       && survives (loser_key g src metric c) its_winner st.state draw
       (Some (Accepted.Assert (record { number = c.down }) (addr c.address) (said g src metric)))))))))
 
@@ -100,17 +97,14 @@ module _ (d bound : ℕ) (started : ℕ → ℕ) (g src : ℕ) (metric : AssertM
   gives_so : (n : Network) (draw : ℕ) → option_map_or (gives_at draw) (station_at n c.upper) false ≡ true → GivesWay g src metric c draw n
   gives_so n draw e =
       let f : Found Station (gives_at draw) (station_at n c.upper) = found Station (gives_at draw) (station_at n c.upper) e in
-      then f.passes (λ configured e. then e (λ up e. then e (λ neighbour e. then e (λ other e. then e (λ linked e. then e (λ room e. then e (λ can stays.
-      let h : Found AssertRow (can_row f.it) (row_at ((f.it).state).asserts (loser_key g src metric c)) = found AssertRow (can_row f.it) _ can in record {
+      then f.passes (λ configured e. then e (λ up e. then e (λ neighbour e. then e (λ other e. then e (λ linked e. then e (λ room e. then e (λ can stays. record {
         station = f.it;
         there = f.is;
         can = record {
           hears = record { configured = lt_so _ _ configured; up = up; neighbour = neighbour; other = off_so _ other };
           linked = same_so _ _ linked;
           room = off_so _ room;
-          row = h.it;
-          found = h.is;
-          gives = h.passes;
+          gives = can;
         };
         stays = stays;
       })))))))
@@ -158,10 +152,10 @@ module _ (d bound : ℕ) (started : ℕ → ℕ) (g src : ℕ) (metric : AssertM
         way = way;
       })
 
-  abbrev loser_keeps : Network → Move → Bool
+  abbrev pub loser_keeps : Network → Move → Bool
   loser_keeps n m = delivery_test c.upper c.down (λ k draw. gives_frame n k draw) m && kept_at n m
 
-  loser_keeps_so : (n : Network) (m : Move) → loser_keeps n m ≡ true → LoserKeeps g src metric c n m
+  pub loser_keeps_so : (n : Network) (m : Move) → loser_keeps n m ≡ true → LoserKeeps g src metric c n m
   loser_keeps_so n m e =
       then e (λ given kept. record {
         gives = λ number draw is framed. gives_so n draw (else_so (is_assert (its_frame)) (λ u. option_map_or (gives_at draw) (station_at n c.upper) false)
@@ -194,6 +188,20 @@ module _ (d bound : ℕ) (started : ℕ → ℕ) (g src : ℕ) (metric : AssertM
       moves_of : (ms : List Move) (n : Network) → claim_test n ms ≡ true → EachMove (LoserKeeps g src metric c) n ms
       moves_of ms n e =
           moves_so claim_at (λ n m next ms. loser_keeps n m) (EachMove (LoserKeeps g src metric c)) (λ n. tt) (λ n m ms e f. (loser_keeps_so n m e, f)) ms n e
+
+  -- wherever the way of the other one leads
+  abbrev pub yields_test : Network → List Move → Bool
+  yields_test n ms = run_test wins_at (λ n m next ms. loser_keeps n m) n ms
+
+  pub yields_by : (n : Network) (ms : List Move) → IsSayable c.address g src metric → is_about (said g src metric) ≡ true → yields_test n ms ≡ true
+      → Yields g src metric c n ms
+  yields_by n ms sayable about e = record {
+    sayable = sayable;
+    about = about;
+    wins = always_so wins_at (λ n m next ms. loser_keeps n m) (Wins g src metric c) wins_so ms n e;
+    hears = moves_so wins_at (λ n m next ms. loser_keeps n m) (EachMove (LoserKeeps g src metric c)) (λ n. tt)
+        (λ n m ms e f. (loser_keeps_so n m e, f)) ms n e;
+  }
 
   pub off_tree : (n : Network) (ms : List Move) → claim_test n ms ≡ true → Always (IsOffTree g src metric c) n ms
   off_tree n ms e =

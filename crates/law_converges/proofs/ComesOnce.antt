@@ -2,10 +2,10 @@
 use Rattle.std.{proofs.Common.{List, None, Ok, Option, Some, [], ap, arith, cond, eq-eqb, false, inl, inr, length, refl, subst, suc, sym, true, ℕ, ◌*◌, ◌+◌, ◌<◌, ◌==◌, ◌∙◌, ◌∷◌, ◌≡◌, ◌≤◌, ◌⊎◌}, specs.{List.AllByRecursion, Prelude.option_and_then}}
 use Rattle.pim_ip.{specs.{Ipv4.{Packet, copy_text, frame_limit, ipv4_reading, is_link_local, is_multicast, protocol_igmp}, View.copied}}
 use Rattle.pim_types.{specs.declared.event.{Event.Event, EventKind.EventKind}}
-use Rattle.pim_model.{specs.{Cause.{done_as, packet_in}, Network.{Deliver, Move, Network, Sent, Station, event_of, frame_at, frame_event, is_on_frame_link, moved, network_ran, station_at}, State.{State, is_own}, Step.{Answered, change, done, step}, Tables.has_row, Writing.on_link, declared.accepted.Accepted.Accepted}}
+use Rattle.pim_model.{specs.{Cause.{done_as, packet_in}, Full.source_is_full, Network.{Deliver, Move, Network, Sent, Station, event_of, frame_at, frame_event, is_on_frame_link, moved, network_ran, station_at}, State.{State, is_own}, Step.{Answered, change, done, step}, Writing.on_link, declared.accepted.Accepted.Accepted}}
 use Rattle.law_settled.{proofs.{ListLaws.each_more, Unsettled.{Unsettled, settling_leaves}}}
-use Rattle.law_streams.{proofs.{Climbing.frames_stay, Deliveries.{IsNewOn, IsStepped, is_delivered, is_stepped}, EndSoon.change_present, Forwards.{copy_fits, copy_reads_lower, data_done, from_copies}, Leaves.taken_is_done, Made.step_taken, Pairs.{frame_stays, same_station}, Room.has_room, Roots.leaves_root, Serving.passing_serves}, specs.{Copies.happens, InTimeJoins.{Always, IsBy, time_at}, Passing.Passes, Roots.{ArrivesFor, InRegister, IsBrought, OnTree}, Served.IsServed, StreamRoots.Sends}}
-use Rattle.law_converges.{proofs.{Carried.{Brought, brings, came_here, comes, soon_first}, LinkDr.always_more, LinkJoins.first_of, LinkRptOrder.{frames_grow, there_is}, OneCopy.one_copy, Past.from_then_on, TakesOver.moved_so}, specs.{Carried.{Arrivals, Carries, ComesInTurn, EachMove, IsFor, IsSentBy, Traffic, arrived}, ComesOnce.{AreForwarding, AreServedOnce, ComesOf, ComesOnce, EachPacketComesOnce, Forwarder, Forwards, HasOneOn, HearsAll, IsCopied, IsPassedOn, Root, SendsDown, SomeMove, sender_of}, LinkDr.{IsOne, Member}, Past.{ArePast, HoldsPast, HoldsPastOn}}}
+use Rattle.law_streams.{proofs.{Climbing.frames_stay, Deliveries.{IsNewOn, IsStepped, is_delivered, is_stepped}, EndSoon.change_present, Forwards.{copy_fits, copy_reads_lower, data_done, from_copies}, Leaves.taken_is_done, Made.step_taken, Pairs.{frame_stays, same_station}}, specs.{Copies.happens, InTimeJoins.{Always, IsBy, time_at}, Roots.{ArrivesFor, InRegister, IsBrought, OnTree}}}
+use Rattle.law_converges.{proofs.{Carried.{Brought, brings, came_here, comes, soon_first}, LinkDr.always_more, LinkJoins.first_of, LinkRptOrder.{frames_grow, there_is}, OneCopy.one_copy, Past.from_then_on, SourceStreams.{passes_it, root_sends, takes_on}, TakesOver.moved_so}, specs.{Carried.{Arrivals, Carries, ComesInTurn, EachMove, IsFor, IsSentBy, Traffic, arrived}, ComesOnce.{AreForwarding, AreServedOnce, ComesOf, ComesOnce, EachPacketComesOnce, Forwarder, Forwards, HasOneOn, HearsAll, IsCopied, IsOfTree, IsPassedOn, PassesOn, Root, SendsDown, SendsOn, SomeMove, sender_of}, LinkDr.{IsOne, Member}, Past.{ArePast, HoldsPast, HoldsPastOn}}}
 
 -- ---- a data packet takes no time
 
@@ -75,17 +75,17 @@ module _ (g src : ℕ) (is_group : is_multicast g ≡ true) (far : is_link_local
     unfolding event_of
     its_event = rw (fw.there, framed, fw.above, eq-eqb f.above f.above refl) refl
 
-    its_passes : Passes f.tree f.receiver (st).state (c.packet).destination (c.packet).source up f.down
-    its_passes = of_packet g src c.packet c.group c.source (λ d a. Passes f.tree f.receiver (st).state d a up f.down) fw.passes
+    its_passes : PassesOn (st).state (c.packet).destination (c.packet).source up f.down
+    its_passes = of_packet g src c.packet c.group c.source (λ d a. PassesOn (st).state d a up f.down) fw.passes
 
     is_done : done_as (happens (st).state event) ≡ Some (Accepted.Data (record { number = up }) c.packet)
     is_done =
-        let in_there = (fw.passes).comes_in in
+        let in_there = takes_on (st).state g src up f.down fw.passes in
         data_done (st).state up draw bytes c.packet c.reads in_there.configured in_there.is_up c.fits c.is_data
         (of_packet g src c.packet c.group c.source (λ d a. is_multicast d ≡ true) is_group)
         (of_packet g src c.packet c.group c.source (λ d a. is_link_local d ≡ false) far)
         (of_packet g src c.packet c.group c.source (λ d a. is_own (st).state a ≡ false) in_there.foreign)
-        (has_room f.tree (st).state (c.packet).destination (c.packet).source up ((its_passes).comes_in).on (its_passes).room)
+        (of_packet g src c.packet c.group c.source (λ d a. source_is_full (st).state d a ≡ false) in_there.room)
 
     its_far : is_link_local (c.packet).destination ≡ false
     its_far = of_packet g src c.packet c.group c.source (λ d a. is_link_local d ≡ false) far
@@ -97,7 +97,7 @@ module _ (g src : ℕ) (is_group : is_multicast g ≡ true) (far : is_link_local
     leaves some =
         (its_step).sent f.down f.below (copy_text c.packet) (fw.below).linked
         (from_copies (st).state event (on_link f.down (copy_text c.packet))
-        (passing_serves f.tree f.receiver (st).state event c.packet up f.down its_passes
+        (passes_it (st).state event c.packet up f.down its_passes
         (record { done = is_done; lives = (let e = c.time_to_live in omega (arith, some, e)) })))
 
     its_copy : (number : ℕ) → length n.frames < number
@@ -533,10 +533,6 @@ arrives : (s : State) (e : Event) (p : Packet) (j : ℕ) → ArrivesFor s e p j 
 arrives s e p j (OnTree i is on off) = ap packet_in is
 arrives s e p j (InRegister outer is rp unset) = ap packet_in is
 
-served_so : (s : State) (g src down : ℕ) → Sends s g src down → IsServed s g src down
-unfolding has_row
-served_so s g src down f = grind arith
-
 module _ (g src d : ℕ) (started : ℕ → ℕ) (t : Traffic) (root : Root) (is_group : is_multicast g ≡ true) (far : is_link_local g ≡ false) (link : ℕ)
     (fs : List Forwarder) (came : Arrivals) (n : Network) (m : Move) (ms : List Move) (sent : EachMove (IsSentBy started t) n (m ∷ ms))
     (hear : AllByRecursion (HearsAll d started t came n (m ∷ ms)) fs) (way : Always (AreForwarding g src root link fs) n (m ∷ ms)) where
@@ -549,7 +545,7 @@ module _ (g src d : ℕ) (started : ℕ → ℕ) (t : Traffic) (root : Root) (is
 
   module _ (e : Event) (before after : Station) (payload : List ℕ) (lives : ℕ) (ev : event_of n m ≡ Some (root.router, e))
       (at : station_at n root.router ≡ Some before) (then : station_at (moved n m).1 root.router ≡ Some after) (some : 0 < lives)
-      (b : IsBrought before.state e g src root.down payload (lives + length fs))
+      (b : IsBrought before.state e g src root.down payload (lives + length fs)) (of : IsOfTree root.tree before.state e b.packet root.down b.comes)
       (limit : ArePast started (time_at started root.router after + length fs * d) (network_ran (moved n m).1 ms).1) where
     abbrev top : ℕ
     top = lives + length fs
@@ -568,9 +564,9 @@ module _ (g src d : ℕ) (started : ℕ → ℕ) (t : Traffic) (root : Root) (is
     root_copy : IsNewOn n (moved n m).1 root.below (copy_text b.packet)
     root_copy =
         (stepped_so).sent root.down root.below (copy_text b.packet) (one_on).linked
-        (leaves_root before.state e b.packet root.down (let long = b.time_to_live in omega (arith, some, long))
-        (of_packet g src b.packet b.group b.source (λ x a. IsServed before.state x a root.down)
-        (served_so before.state g src root.down (subst (λ (z : Station). Sends z.state g src root.down) same (sends).sends))) b.comes)
+        (root_sends root.tree before.state e b.packet root.down (let long = b.time_to_live in omega (arith, some, long))
+        (of_packet g src b.packet b.group b.source (λ x a. SendsOn root.tree before.state x a root.down)
+        (subst (λ (z : Station). SendsOn root.tree z.state g src root.down) same (sends).sends)) b.comes of)
 
     abbrev frame : ℕ
     frame = ((root_copy).on).number
@@ -679,8 +675,8 @@ each_packet_comes_once g src d bound started t came root link fs n ms is_group f
     each [] n came sent hear way = tt
     each (m ∷ ms) n came sent hear way = (
       record {
-        served = λ e before after payload lives ev at then some b limit.
-            is_once g src d started t root is_group far link fs came n m ms sent hear way e before after payload lives ev at then some b limit;
+        served = λ e before after payload lives ev at then some b of limit.
+            is_once g src d started t root is_group far link fs came n m ms sent hear way e before after payload lives ev at then some b of limit;
       },
       each ms (moved n m).1 (arrived came m) sent.1 (all_hear_then g src d started t root came n m ms fs hear) way.1,
     )

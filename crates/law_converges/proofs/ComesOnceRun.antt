@@ -2,7 +2,7 @@
 use Rattle.std.{proofs.Common.{◌≡◌, ℕ, ◌+◌, ◌*◌, ◌≤◌, List, [], ◌∷◌, length, Bool, true, false, inl, Some, refl, sym, subst, lit≤}}
 use Rattle.pim_ip.{specs.Ipv4.{is_link_local, is_multicast, packet_of}}
 use Rattle.pim_model.{specs.{Network.{Move, Network, Station, event_of, moved, network_ran, station_at}}}
-use Rattle.law_streams.{specs.{InTimeJoins.{IsReady, time_at}, Joins.join_packet, Roots.{IsBrought, IsRegister}}, proofs.{Computed.{stand, stands_there}, Pairs.ready_then, StreamRoots.each_register_is_brought}}
+use Rattle.law_streams.{specs.{InTimeJoins.{IsReady, time_at}, Joins.join_packet, Passing.Receiver, Roots.{IsBrought, IsRegister}}, proofs.{Computed.{stand, stands_there}, Pairs.ready_then, StreamRoots.each_register_is_brought}}
 use Rattle.pim_runs.{specs.{InTime.started, ServedChain.{asked_group, content, register, root, sender, sent_packet}, Words.unicast}, proofs.OnLiterals.machine_on_literals}
 use Rattle.law_converges.{specs.{Carried.{EachMove, IsSentBy}, ComesOnce.{AreForwarding, AreServedOnce, ComesOnce, Forwards, HearsAll, SendsDown}, ComesOnceRun.{ChainForwards, ChainServesOnce, all_came, all_joined, at_rp, coming_down, first_move, first_on_low, its_register, joined_by, second_on_high, so_far, soon, to_first, to_host, traffic}, JoinedWaysRun.{joining, unjoined}, Past.{ArePast, HoldsPast, HoldsPastOn}}, proofs.{CarriedNetworkRun.nowhere, CarriedTests.{carries_so, carries_test, each_move_so, move_test, sent_by_so, sent_by_test}, CarriedWays.ready_past, ComesOnce.each_packet_comes_once, JoinedWaysRun.{first_ready, second_ready, third_ready}, Past.both_past, Tested.{past_so, past_test}, WayTests.{forwards_at, forwards_so, past_run, past_run_so, sends_at, sends_so}}}
 
@@ -27,11 +27,11 @@ high_passes : carries_test soon soon started traffic 2 (second_on_high ∷ []) a
 unfolding machine_on_literals join_packet
 high_passes = refl
 
-first_passes : past_run started joined_by 2 (forwards_at asked_group sender to_host) all_joined all_moves ≡ true
+first_passes : past_run started joined_by 2 (forwards_at asked_group sender to_host Receiver.Host) all_joined all_moves ≡ true
 unfolding machine_on_literals join_packet
 first_passes = refl
 
-second_passes : past_run started joined_by 2 (forwards_at asked_group sender to_first) all_joined all_moves ≡ true
+second_passes : past_run started joined_by 2 (forwards_at asked_group sender to_first Receiver.Router) all_joined all_moves ≡ true
 unfolding machine_on_literals join_packet
 second_passes = refl
 
@@ -65,13 +65,13 @@ forwarding =
     both_past started joined_by (Forwards asked_group sender to_host) (λ n. Forwards asked_group sender to_first n × SendsDown asked_group sender at_rp n)
     (AreForwarding asked_group sender at_rp 3 (to_host ∷ to_first ∷ [])) (λ n a b. (refl, a, refl, (refl, b.0, refl, (refl, b.1)))) all_moves
     all_joined
-    (by_test (Forwards asked_group sender to_host) (forwards_at asked_group sender to_host) 0 (forwards_so asked_group sender to_host refl) first_ready
+    (by_test (Forwards asked_group sender to_host) (forwards_at asked_group sender to_host Receiver.Host) 0 (forwards_so asked_group sender to_host Receiver.Host) first_ready
     first_passes)
     (both_past started joined_by (Forwards asked_group sender to_first) (SendsDown asked_group sender at_rp)
     (λ n. Forwards asked_group sender to_first n × SendsDown asked_group sender at_rp n) (λ n a b. (a, b)) all_moves all_joined
-    (by_test (Forwards asked_group sender to_first) (forwards_at asked_group sender to_first) 1 (forwards_so asked_group sender to_first refl)
+    (by_test (Forwards asked_group sender to_first) (forwards_at asked_group sender to_first Receiver.Router) 1 (forwards_so asked_group sender to_first Receiver.Router)
     second_ready second_passes)
-    (by_test (SendsDown asked_group sender at_rp) (sends_at asked_group sender at_rp) 2 (sends_so asked_group sender at_rp) third_ready root_passes))
+    (by_test (SendsDown asked_group sender at_rp) (sends_at asked_group sender at_rp) 2 (sends_so asked_group sender at_rp refl) third_ready root_passes))
 
 low_hears : HearsAll soon started traffic all_came all_joined all_moves to_host
 low_hears = record {
@@ -167,6 +167,6 @@ pub chain_serves_once : ChainServesOnce
 chain_serves_once =
     subst (λ (by : ℕ). ComesOnce asked_group sender 3 content 1 by traffic at_rp (to_host ∷ to_first ∷ []) then_there its_register coming_down) its_time
     (((served).0 (past_so started (λ q r. refl) joined_by then_there begun_is_past)).0.served (unicast register) rp_before rp_after content 1 is_event
-    before_there after_there (lit≤ tt) brought
+    before_there after_there (lit≤ tt) brought tt
     (subst (λ (by : ℕ). ArePast started by (network_ran (moved then_there its_register).1 coming_down).1) (sym its_time)
     (past_so started (λ q r. refl) 239201 (network_ran (moved then_there its_register).1 coming_down).1 end_passes)))

@@ -2,8 +2,8 @@
 use Rattle.std.{proofs.Common.{Bool, List, Some, [], ap, arith, eq-eqb, eqb-true, false, refl, subst, sym, true, ℕ, ◌*◌, ◌+◌, ◌<◌, ◌==◌, ◌∙◌, ◌∷◌, ◌≡◌, ◌≤◌}, specs.{List.AllByRecursion, Prelude.slice_get}}
 use Rattle.pim_types.{specs.Keys.source_key}
 use Rattle.pim_model.{specs.{Network.{Move, Network, Station, moved, station_at}, Receivers.local_receiver_exclude, Sets.{assert_source, assert_star, is_loser, prunes}, State.iface_count, Tables.row_at}}
-use Rattle.law_streams.{proofs.Pairs.same_station, specs.InTimeJoins.{Star, Wants}}
-use Rattle.law_converges.{proofs.{AloneOnLink.{members_then, nothing_else}, CarriedNetwork.one_lan, CarriedWays.{HopStands, HopsStand, stand_later}, MemberLinks.{IsOpenTo, ReachesHosts, among, not_lost, once, unlost_past, wanted}, Past.{both_past, later_past, same_past, throughout_past}, RoutedWays.tree_past, RoutesToRp.{AreJoined, all_meet, are_joined, routes_lead_to_rp, within}, Unheard.{HasState, none_lost_past, none_pruned_past}}, specs.{AloneOnLink.AreMembers, Carried.{Arrivals, Traffic}, CarriedNetwork.{HopOn, IsOneLan, IsQuietPlan, Lan, LanIsQuiet, Plan, number_of}, CarriedWays.AreOnTree, EachMember.{AreApart, EachMemberIsServed, HopIsFree, IsIncluded, IsReached, IsServed, NoneBeaten, TakesOnTree}, JoinedWays.a_hop, LinkDr.{IsOne, Member, Stands}, Past.HoldsPast, RoutedWays.{AreFree, IsFree, TakesIn}, RoutesToRp.{AllCanJoin, AreRouted, AreRpf, HasWayUp, LeadsUp, NoneLost, NoneLostOn, RoutesLead, Routing, WantsFrom}, Settles.routers, Unheard.HearsNoBetter}}
+use Rattle.law_streams.{proofs.Pairs.same_station, specs.InTimeJoins.{IsJoin, Star, Wants}}
+use Rattle.law_converges.{proofs.{AloneOnLink.{members_then, nothing_else}, CarriedNetwork.one_lan, CarriedWays.{HopStands, HopsStand, stand_later}, LoserJoins.loser_joins_winner, MemberLinks.{IsOpenTo, ReachesHosts, among, not_lost, once, unlost_past, wanted}, Past.{both_past, later_past, same_past, throughout_past}, RoutedWays.tree_past, RoutesToRp.{AreJoined, all_meet, are_joined, routes_lead_to_rp, within}, Unheard.{HasState, none_lost_past, none_pruned_past}}, specs.{AloneOnLink.AreMembers, Carried.{Arrivals, Traffic}, CarriedNetwork.{AreOn, HopOn, IsOneLan, IsQuietPlan, Lan, LanIsQuiet, Plan, number_of}, CarriedWays.AreOnTree, EachMember.{AreApart, ComesOver, EachComesOver, EachMemberIsServed, GivesWay, HopIsFree, IsIncluded, IsReached, IsServed, NeitherBeaten, TakesOnTree}, JoinedWays.a_hop, LinkDr.{IsOne, Member, Stands}, Past.HoldsPast, RoutedWays.{AreFree, IsFree, TakesIn}, RoutesToRp.{AllCanJoin, AreChosen, AreRouted, AreRpf, ByRoute, HasWayUp, IsChosen, IsNamed, LanMeets, LeadsUp, RoutesLead, Routing, WantsFrom}, Settles.routers, Unheard.HearsNoBetter}}
 
 -- ---- whoever is on a link stays one of its routers, with one interface
 
@@ -22,7 +22,7 @@ module _ (started : ℕ → ℕ) (limit link : ℕ) (members : List Member) wher
 module _ (g src rp d late lag bound limit k : ℕ) (started : ℕ → ℕ) (t : Traffic) (came : Arrivals) (plan : Plan) (routing : Routing)
     (n : Network) (ms : List Move) (a : Lan) (x : Member) (h : HopOn) (hs : List HopOn) (q : IsQuietPlan d late lag bound started t came plan n ms)
     (members : AllByRecursion (λ (b : Lan). AreMembers (number_of b) (routers b.link) n) plan.lans)
-    (lead : RoutesLead (Star rp) g plan.lans routing n ms) (beaten : NoneBeaten g bound started routing n ms)
+    (lead : RoutesLead (Star rp) g plan.lans routing n ms) (over : EachComesOver rp g d bound started routing n ms)
     (all : AllCanJoin (Star rp) g t routing n ms) (o : IsReached g src d lag bound limit k started plan routing n ms a x h hs) where
   abbrev Later : (Network → Type 0) → Type 0
   Later P = HoldsPast started limit P n ms
@@ -47,26 +47,36 @@ module _ (g src rp d late lag bound limit k : ℕ) (started : ℕ → ℕ) (t : 
 
   -- ---- the routes
 
-  none_lost : NoneLostOn (Star rp) g bound started routing n ms
-  none_lost r j e =
+  abbrev Unlost : Member → Network → Type 0
+  Unlost y = HasState (λ s. is_loser (assert_star s g y.iface) ≡ false) y.router
+
+  chosen_over : (c : HopOn) → IsOneLan plan.lans c.lan → AreOn c.lan c.lower c.upper → IsJoin (Star rp) g
+      → ComesOver rp g d bound started n ms c → HoldsPast started bound (IsChosen (Star rp) g c) n ms
+  chosen_over c among on isg (NeitherBeaten named lower upper) =
+      both_past started bound (IsNamed (Star rp) g c) (λ n. Unlost c.lower n × Unlost c.upper n) (IsChosen (Star rp) g c)
+      (λ n f u. record {
+        below = f.station;
+        below_is = f.there;
+        chooses = ByRoute f.path f.route f.to
+            (subst (λ (z : Station). is_loser (assert_star z.state g (c.lower).iface) ≡ false) (same_station (u.0).there f.there) (u.0).good);
+        above = (u.1).station;
+        above_is = (u.1).there;
+        unlost_above = (u.1).good;
+      }) ms n named
+      (both_past started bound (Unlost c.lower) (Unlost c.upper) (λ n. Unlost c.lower n × Unlost c.upper n) (λ n a b. (a, b)) ms n
+      (unlost_past g d late lag bound started t came plan n ms q c.lan among c.lower on.lower lower)
+      (unlost_past g d late lag bound started t came plan n ms q c.lan among c.upper on.upper upper))
+  chosen_over c among on isg (GivesWay f) =
+      (loser_joins_winner (Star rp) g d late bound started t came n ms c isg
+      (one_lan (LanMeets d late bound started t came n ms) plan.lans c.lan (all_meet d late bound started t came n ms plan.lans q.lans) among) on f).chosen
+
+  are_chosen : AreChosen (Star rp) g bound started routing n ms
+  are_chosen r j e =
       let u : LeadsUp (Star rp) g plan.lans routing n ms r j = lead.up r j e in
-      both_past started bound
-      (HasState (λ s. is_loser (assert_star s g ((routing.next r).lower).iface) ≡ false) ((routing.next r).lower).router)
-      (HasState (λ s. is_loser (assert_star s g ((routing.next r).upper).iface) ≡ false) ((routing.next r).upper).router)
-      (NoneLost (Star rp) g (routing.next r))
-      (λ n low up. record {
-        below = low.station;
-        below_is = low.there;
-        unlost_below = low.good;
-        above = up.station;
-        above_is = up.there;
-        unlost_above = up.good;
-      }) ms n
-      (unlost_past g d late lag bound started t came plan n ms q (routing.next r).lan u.among (routing.next r).lower (u.on).lower (beaten r j e).0)
-      (unlost_past g d late lag bound started t came plan n ms q (routing.next r).lan u.among (routing.next r).upper (u.on).upper (beaten r j e).1)
+      chosen_over (routing.next r) u.among u.on all.addresses (over r j e)
 
   routed : AreRouted (Star rp) g d late bound started t came plan.lans routing n ms
-  routed = record { few = q.few; meet = all_meet d late bound started t came n ms plan.lans q.lans; lead = lead; unlost = none_lost }
+  routed = record { few = q.few; meet = all_meet d late bound started t came n ms plan.lans q.lans; lead = lead; chosen = are_chosen }
 
   up : HasWayUp (Star rp) g bound started plan.lans routing n ms x.router k
   up = routes_lead_to_rp (Star rp) g d late bound started t came plan.lans routing n ms x.router k routed o.distance

@@ -1,10 +1,10 @@
 -- The premises are those of the members' links and of the routes, and that no better Assert comes, and no Prune of the source.
-use Rattle.std.{proofs.Common.{Bool, List, [], arith, inl, inr, lit≤, refl, suc, true, zero, ℕ, ◌&&◌, ◌<◌, ◌≡◌}, specs.Cmp.{first_so, second_so}}
+use Rattle.std.{proofs.Common.{Bool, List, [], arith, inl, inr, lit≤, refl, true, ℕ, ◌&&◌, ◌<◌, ◌≡◌}, specs.Cmp.{first_so, second_so}}
 use Rattle.pim_types.{specs.Keys.{source_key, star_key}}
 use Rattle.pim_model.{specs.Network.{Move, Network}}
 use Rattle.law_streams.{specs.Joins.join_packet}
 use Rattle.pim_runs.{proofs.OnLiterals.machine_on_literals, specs.{Base.rp, InTime.started, ServedChain.asked_group}}
-use Rattle.law_converges.{proofs.{AloneOnLink.each_move_more, EachMember.each_member_is_served, MemberLinksRun.{are_unbeaten, keys_of, low_serves, no_others_send, own_serves, own_unbeaten, served_plan_is_quiet}, MemberTests.{hears_none_better, included_at, included_so, tree_at, tree_so}, RoutesToRpRun.{none_there, routes_lead_on_plan}, WayTests.{past_run, past_run_so}}, specs.{AloneOnLink.ComesDownTheWay, Carried.EachMove, CarriedNetwork.{IsOneLan, Lan}, CarriedNetworkRun.{before, bound, far_source, farther_on_high, high_lan, lag, limit, low_lan, moves, nearer_on_high, nearer_on_low, none_came, plan, rp_on_high, soon, star, traffic}, CarriedWaysRun.its_hop, EachMember.{HopIsFree, IsIncluded, NoneBeaten, TakesOnTree}, EachMemberRun.{BothAreReached, BothAreServed, NothingElseComesToBoth}, LinkDr.Member, MemberLinks.NoneBetter, MemberLinksRun.{farther_on_own, other_hop, own_lan, served_plan}, Past.{ArePast, HoldsPast}, RoutesToRp.RoutesLead, RoutesToRpRun.routing, Unheard.HearsNoBetter}}
+use Rattle.law_converges.{proofs.{AloneOnLink.each_move_more, EachMember.each_member_is_served, MemberLinksRun.{are_unbeaten, keys_of, low_serves, no_others_send, own_serves, own_unbeaten, served_plan_is_quiet}, MemberTests.{hears_none_better, included_at, included_so, tree_at, tree_so}, RoutesToRpRun.{each_of, named_past, names_farther, names_nearer, routes_lead_on_plan}, WayTests.{past_run, past_run_so}}, specs.{AloneOnLink.ComesDownTheWay, Carried.EachMove, CarriedNetwork.{IsOneLan, Lan}, CarriedNetworkRun.{before, bound, far_source, farther_on_high, high_lan, lag, limit, low_lan, moves, nearer_on_high, nearer_on_low, none_came, plan, rp_on_high, soon, star, traffic}, CarriedWaysRun.its_hop, EachMember.{ComesOver, EachComesOver, HopIsFree, IsIncluded, NeitherBeaten, TakesOnTree}, EachMemberRun.{BothAreReached, BothAreServed, NothingElseComesToBoth}, LinkDr.Member, MemberLinks.{NoneBetter, Unbeaten}, MemberLinksRun.{farther_on_own, other_hop, own_lan, served_plan}, Past.{ArePast, HoldsPast}, RoutesToRp.RoutesLead, RoutesToRpRun.routing}}
 
 -- ---- one link more
 
@@ -14,7 +14,7 @@ more_lans a (inr (inl same)) = inr (inl same)
 more_lans a (inr (inr none)) = absurd none
 
 -- of any network and moves, so that none is computed here
-lead_over : (n : Network) (ms : List Move) → RoutesLead star asked_group plan.lans routing n ms
+pub lead_over : (n : Network) (ms : List Move) → RoutesLead star asked_group plan.lans routing n ms
     → RoutesLead star asked_group served_plan.lans routing n ms
 lead_over n ms f = record {
   top = f.top;
@@ -29,20 +29,17 @@ lead_over n ms f = record {
   };
 }
 
-beaten_of : (n : Network) (ms : List Move) → HearsNoBetter (star_key 1 asked_group) bound started 0 n ms
-    → HearsNoBetter (star_key 1 asked_group) bound started 1 n ms → HearsNoBetter (star_key 0 asked_group) bound started 2 n ms
-    → NoneBeaten asked_group bound started routing n ms
-beaten_of n ms f g h zero k e = (NoneBetter f, NoneBetter h)
-beaten_of n ms f g h (suc zero) k e = (NoneBetter g, NoneBetter h)
-beaten_of n ms f g h (suc (suc zero)) k e = none_there k e
-beaten_of n ms f g h (suc (suc (suc r))) k e = cc e
-
-none_beaten : NoneBeaten asked_group bound started routing before moves
-none_beaten =
-    beaten_of before moves
-    (hears_none_better bound started 0 (keys_of 0) before moves (are_unbeaten).nearer (star_key 1 asked_group) (inr (inl refl)) (lit≤ tt))
-    (hears_none_better bound started 1 (keys_of 1) before moves (are_unbeaten).farther (star_key 1 asked_group) (inl refl) (lit≤ tt))
-    (hears_none_better bound started 2 (keys_of 2) before moves (are_unbeaten).at_rp (star_key 0 asked_group) (inl refl) (lit≤ tt))
+comes_over : EachComesOver rp asked_group soon bound started routing before moves
+comes_over =
+    each_of (ComesOver rp asked_group soon bound started before moves)
+    (NeitherBeaten (named_past its_hop names_nearer)
+    (NoneBetter (hears_none_better bound started 0 (keys_of 0) before moves (are_unbeaten).nearer (star_key 1 asked_group) (inr (inl refl)) (lit≤ tt)))
+    at_rp)
+    (NeitherBeaten (named_past other_hop names_farther)
+    (NoneBetter (hears_none_better bound started 1 (keys_of 1) before moves (are_unbeaten).farther (star_key 1 asked_group) (inl refl) (lit≤ tt))) at_rp)
+  where
+    at_rp : Unbeaten asked_group bound started before moves high_lan rp_on_high
+    at_rp = NoneBetter (hears_none_better bound started 2 (keys_of 2) before moves (are_unbeaten).at_rp (star_key 0 asked_group) (inl refl) (lit≤ tt))
 
 -- ---- past the limit
 
@@ -93,7 +90,7 @@ hop_free c takes = record {
 
 pub both_are_reached : BothAreReached
 both_are_reached = (
-  none_beaten,
+  comes_over,
   record {
     serves = low_serves;
     distance = refl;
@@ -132,10 +129,10 @@ both_are_reached = (
 pub both_are_served : BothAreServed
 both_are_served = (
   each_member_is_served asked_group far_source rp soon soon lag bound limit 1 started traffic none_came served_plan routing before moves low_lan
-      nearer_on_low its_hop [] served_plan_is_quiet (no_others_send).0 (lead_over before moves (routes_lead_on_plan).0) none_beaten
+      nearer_on_low its_hop [] served_plan_is_quiet (no_others_send).0 (lead_over before moves (routes_lead_on_plan).0) comes_over
       (routes_lead_on_plan).2 (both_are_reached).1,
   each_member_is_served asked_group far_source rp soon soon lag bound limit 1 started traffic none_came served_plan routing before moves own_lan
-      farther_on_own other_hop [] served_plan_is_quiet (no_others_send).0 (lead_over before moves (routes_lead_on_plan).0) none_beaten
+      farther_on_own other_hop [] served_plan_is_quiet (no_others_send).0 (lead_over before moves (routes_lead_on_plan).0) comes_over
       (routes_lead_on_plan).2 (both_are_reached).2,
 )
 

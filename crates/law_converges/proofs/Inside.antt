@@ -6,11 +6,11 @@ use Rattle.pim_model.{specs.{Cause.{done_as, packet_in}, State.State}}
 use Rattle.law_streams.{proofs.{Brought.packet_comes_from_event, Forwards.copy_reads_lower, Hops.of_reading}, specs.{Brought.{BringsPacket, InRegister, OnLink}, Copies.happens}}
 use Rattle.law_converges.{specs.ComesOnce.IsOfSource}
 
-record WasReadOf (p : Packet) : Type 0 where
-  bytes : List ℕ
-  reads : ipv4_reading bytes ≡ Ok p
+pub record WasReadOf (p : Packet) : Type 0 where
+  pub bytes : List ℕ
+  pub reads : ipv4_reading bytes ≡ Ok p
 
-brought_is_read : (s : State) (e : Event) (p : Packet) → packet_in (done_as (happens s e)) ≡ Some p → WasReadOf p
+pub brought_is_read : (s : State) (e : Event) (p : Packet) → packet_in (done_as (happens s e)) ≡ Some p → WasReadOf p
 brought_is_read s e p brought = go (packet_comes_from_event s e p brought)
   where
     go : BringsPacket e p → WasReadOf p

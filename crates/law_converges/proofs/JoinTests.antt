@@ -3,9 +3,9 @@ use Rattle.std.{proofs.{Common.{◌≡◌, ◌∙◌, ℕ, ◌+◌, ◌*◌, ◌
 use Rattle.pim_ip.{specs.Ipv4.{header_text, is_multicast, is_unicast, pim_packet_text}, specs.Checksum.with_checksum}
 use Rattle.pim_wire.{specs.{Encoded.pim_text, JoinPrunes.join_prune_text}}
 use Rattle.pim_types.{specs.{declared.{fact.{JoinTimerRow.JoinTimerRow}, path.Hop.Hop}}}
-use Rattle.pim_model.{specs.{declared.accepted.Accepted.Accepted, Full.{is_full}, Neighbours.{is_neighbour, nbr}, Network.{Move, Network, Sent, Station, moved, station_at}, State.{State, iface_count, is_own, is_up, my_address}, Tables.{row_at, same_hop, same_option}, Unicast.rp_of}}
-use Rattle.law_streams.{specs.{InTimeJoins.{Always, AreInTime, AreThere, ComesBy, IsInTime, IsJoin, IsReady, IsRp, IsTaken, IsUnlost, Join, Pair, Source, Star, Wants, entry_of, frame_of, is_lost_at, is_suppressed, is_wanted, join_key, prunes_it, prunes_of, time_at, way_to}, Joins.{IsWritable, join_packet, join_value}}, proofs.Computed.{prunes_nothing}}
-use Rattle.law_converges.{specs.{JoinedWays.{IsDue, IsHop, IsNear, longest_join}, Settles.{Joining, JoiningIsQuiet}}, proofs.{Tested.{Delivery, Found, by_so, comes_by, comes_so, delivery_so, each_found, else_so, found, happens_not, is_by, is_delivery, late_so, late_test, le_so, lt_so, moves_so, always_so, not_so, off_so, or_else, run_test, same_so, then, told_so, told_test}}}
+use Rattle.pim_model.{specs.{declared.accepted.Accepted.Accepted, Full.{is_full}, Neighbours.is_neighbour, Network.{Move, Network, Sent, Station, moved, station_at}, State.{State, iface_count, is_own, is_up, my_address}, Tables.{row_at, same_hop, same_option}, Unicast.rp_of}}
+use Rattle.law_streams.{specs.{InTimeJoins.{Always, AreInTime, ComesBy, IsInTime, IsJoin, IsReady, IsRp, IsTaken, IsUnlost, Join, Pair, Source, Star, Wants, entry_of, frame_of, is_lost_at, is_suppressed, is_wanted, join_key, prunes_it, prunes_of, rpf_of, time_at}, Joins.{IsWritable, join_packet, join_value}}, proofs.Computed.{prunes_nothing}}
+use Rattle.law_converges.{specs.{JoinedWays.{IsDue, IsHop, IsNear, longest_join}, RpfJoins.IsNextHop, Settles.{Joining, JoiningIsQuiet}}, proofs.{Tested.{Delivery, Found, by_so, comes_by, comes_so, delivery_so, each_found, else_so, found, happens_not, is_by, is_delivery, late_so, late_test, le_so, lt_so, moves_so, always_so, not_so, off_so, or_else, run_test, same_so, then, told_so, told_test}}}
 
 pub hop_so : (o : Option Hop) (h : Hop) → same_hop o (Some h) ≡ true → o ≡ Some h
 hop_so None h e = cc e
@@ -45,11 +45,10 @@ module _ (d bound : ℕ) (started : ℕ → ℕ) where
     rp_so (Star rp) s e = same_so _ _ e
     rp_so (Source src) s e = tt
 
-    abbrev goes_up : Station → Bool
-    goes_up st =
-        rp_test x st.state && (same_hop (nbr st.state (way_to x st.state g)) (Some c.hop)
-        && (not (is_lost_at x st.state g (c.hop).iface.number) && ((my_address st.state (c.hop).iface.number == c.from)
-        && same_option (slice_get st.links (c.hop).iface.number) (Some c.link))))
+    abbrev goes_over : Station → Bool
+    goes_over st =
+        rp_test x st.state && (same_hop (rpf_of x st.state g) (Some c.hop) && ((my_address st.state (c.hop).iface.number == c.from)
+        && same_option (slice_get st.links (c.hop).iface.number) (Some c.link)))
 
     abbrev hears_below : Station → Bool
     hears_below st =
@@ -59,24 +58,23 @@ module _ (d bound : ℕ) (started : ℕ → ℕ) where
 
     -- of the network at each time
     abbrev pub there_at : Network → Bool
-    there_at n = option_map_or goes_up (station_at n c.lower) false && option_map_or hears_below (station_at n c.upper) false
+    there_at n = option_map_or goes_over (station_at n c.lower) false && option_map_or hears_below (station_at n c.upper) false
 
     abbrev pub wants_at : Network → Bool
     wants_at n = option_map_or (λ (st : Station). is_wanted x st.state g) (station_at n c.lower) false
 
-    pub there_so : (n : Network) → there_at n ≡ true → AreThere x g c n
+    pub there_so : (n : Network) → there_at n ≡ true → IsNextHop x g c n
     there_so n e =
-        let f : Found Station goes_up (station_at n c.lower) = found Station goes_up (station_at n c.lower) (first_so _ _ e) in
+        let f : Found Station goes_over (station_at n c.lower) = found Station goes_over (station_at n c.lower) (first_so _ _ e) in
         let h : Found Station hears_below (station_at n c.upper) = found Station hears_below (station_at n c.upper) (second_so _ _ e) in
-        then f.passes (λ rp e. then e (λ next e. then e (λ unlost e. then e (λ own linked.
+        then f.passes (λ rp e. then e (λ rpf e. then e (λ own linked.
         then h.passes (λ its_rp e. then e (λ configured e. then e (λ up e. then e (λ neighbour e. then e (λ other e. then e
         (λ its_own its_link. record {
           below = f.it;
           below_is = f.is;
-          goes_up = record {
+          goes_over = record {
             rp_known = rp_so x (f.it).state rp;
-            next = hop_so _ _ next;
-            unlost = off_so _ unlost;
+            rpf = hop_so _ _ rpf;
             own = eqb-true _ _ own;
             linked = same_so _ _ linked;
           };
@@ -88,7 +86,7 @@ module _ (d bound : ℕ) (started : ℕ → ℕ) where
             own = eqb-true _ _ its_own;
             linked = same_so _ _ its_link;
           };
-        }))))))))))
+        })))))))))
 
     pub wants_so : (n : Network) → wants_at n ≡ true → Wants x g c.lower n
     wants_so n e =
@@ -218,7 +216,7 @@ module _ (d bound : ℕ) (started : ℕ → ℕ) where
             apart = off_so _ (first_so _ _ addressed);
             lower_ready = lower;
             upper_ready = upper;
-            there = always_so join_at join_by (AreThere x g c) (λ n e. there_so n (first_so _ _ e)) ms n passed;
+            there = always_so join_at join_by (IsNextHop x g c) (λ n e. there_so n (first_so _ _ e)) ms n passed;
             in_time = in_time_so join_at n ms addressed passed;
             wants = always_so join_at join_by (Wants x g c.lower) (λ n e. wants_so n (second_so (there_at n) _ e)) ms n passed;
             station = f.it;
@@ -246,9 +244,9 @@ module _ (d bound : ℕ) (started : ℕ → ℕ) where
         let h : Found JoinTimerRow _ (join_rows (f.it).state) = found JoinTimerRow _ (join_rows (f.it).state) f.passes in
         record { station = f.it; is = f.is; row = h.it; timer = h.is; by = le_so _ _ h.passes }
 
-    pub there_of : (n : Network) (ms : List Move) → quiet_test n ms ≡ true → Always (AreThere x g c) n ms
+    pub there_of : (n : Network) (ms : List Move) → quiet_test n ms ≡ true → Always (IsNextHop x g c) n ms
     there_of n ms e =
-        always_so join_at (λ n m next ms. true) (AreThere x g c) (λ n e. there_so n (first_so _ _ e)) ms n (second_so (join_due n) _ e)
+        always_so join_at (λ n m next ms. true) (IsNextHop x g c) (λ n e. there_so n (first_so _ _ e)) ms n (second_so (join_due n) _ e)
 
     pub wants_of : (n : Network) (ms : List Move) → quiet_test n ms ≡ true → Always (Wants x g c.lower) n ms
     wants_of n ms e =
@@ -290,7 +288,7 @@ module _ (d bound : ℕ) (started : ℕ → ℕ) where
           lower_ready = lower;
           upper_ready = upper;
           near = λ st row at is. le_so _ _ (timer_so is_near n near st row at is);
-          there = always_so hop_at join_by (AreThere x g c) (λ n e. there_so n (first_so _ _ e)) ms n passed;
+          there = always_so hop_at join_by (IsNextHop x g c) (λ n e. there_so n (first_so _ _ e)) ms n passed;
           in_time = in_time_so hop_at n ms addressed passed;
           unlost = always_so hop_at join_by (IsUnlost x g c) unlost_so ms n passed;
         }))

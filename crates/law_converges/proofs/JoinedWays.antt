@@ -2,8 +2,8 @@
 use Rattle.std.{proofs.{Common.{◌≡◌, ◌∙◌, ℕ, ◌+◌, ◌*◌, ◌<◌, ◌≤◌, ◌==◌, nat_le, Bool, true, false, List, [], ◌∷◌, ◌⊎◌, inl, inr, Option, Some, None, refl, sym, subst, arith}, lemmas.Bool.Decides.nat_tests}}
 use Rattle.pim_types.{specs.declared.{fact.JoinTimerRow.JoinTimerRow}}
 use Rattle.pim_model.{specs.{Network.{Move, Network, Station, moved, station_at}, State.State, Step.step, Tables.row_at}}
-use Rattle.law_streams.{specs.InTimeJoins.{Always, AreInTime, AreThere, IsBy, IsHeld, IsHeldAfter, IsJoin, IsReady, IsUnlost, Join, Pair, Wants, is_wanted, join_key, time_at}, proofs.{InTimeTimers.{EndsBy, is_after}, Pairs.{HasTimer, Steps, ends_no_later, joins_come_to_be_held, one_router, ready_then, same_station, timer_runs, wants_on}, Shared.present_later}}
-use Rattle.law_converges.{specs.{JoinedWays.{AreHeldPast, AreHops, AreTogether, IsDue, IsNear, WayComesToBeJoined, a_hop}, Past.{ArePast, HoldsPast, HoldsPastOn}}, proofs.{JoinClock.{Near, step_near}, LinkJoins.{first_of, later, too_late}, Past.{both_past, later_past, later_past_on, throughout_past}}}
+use Rattle.law_streams.{specs.InTimeJoins.{Always, AreInTime, IsBy, IsHeld, IsHeldAfter, IsJoin, IsReady, IsUnlost, Join, Pair, Wants, is_wanted, join_key, time_at}, proofs.{InTimeTimers.{EndsBy, is_after}, Pairs.{HasTimer, Steps, ends_no_later, one_router, ready_then, same_station, timer_runs}, Shared.present_later}}
+use Rattle.law_converges.{specs.{JoinedWays.{AreHeldPast, AreHops, AreTogether, IsDue, IsNear, WayComesToBeJoined, a_hop}, Past.{ArePast, HoldsPast, HoldsPastOn}, RpfJoins.IsNextHop}, proofs.{JoinClock.{Near, step_near}, JoinsOverRpf.{joins_over_rpf_are_held, wants_on}, LinkJoins.{first_of, later, too_late}, Past.{both_past, later_past, later_past_on, throughout_past}}}
 
 -- ---- a pair
 
@@ -35,20 +35,20 @@ module _ (x : Join) (g : ℕ) (started : ℕ → ℕ) (c : Pair) where
 
   -- what the upper one holds it wants
   wants_past : (bound : ℕ) (ms : List Move) (n : Network) → HoldsPast started bound (IsHeld x g c) n ms
-      → HoldsPast started bound (IsUnlost x g c) n ms → HoldsPast started bound (AreThere x g c) n ms
+      → HoldsPast started bound (IsUnlost x g c) n ms → HoldsPast started bound (IsNextHop x g c) n ms
       → HoldsPast started bound (Wants x g c.upper) n ms
   wants_past bound ms n held unlost there =
-      both_past started bound (IsHeld x g c) (λ n. IsUnlost x g c n × AreThere x g c n) (Wants x g c.upper) (λ n h f. wants_on x g c n h f.0 f.1) ms n
+      both_past started bound (IsHeld x g c) (λ n. IsUnlost x g c n × IsNextHop x g c n) (Wants x g c.upper) (λ n h f. wants_on x g c n h f.0 f.1) ms n
       held
-      (both_past started bound (IsUnlost x g c) (AreThere x g c) (λ n. IsUnlost x g c n × AreThere x g c n) (λ n a b. (a, b)) ms n unlost there)
+      (both_past started bound (IsUnlost x g c) (IsNextHop x g c) (λ n. IsUnlost x g c n × IsNextHop x g c n) (λ n a b. (a, b)) ms n unlost there)
 
-  held_past : (bound : ℕ) (ms : List Move) (n : Network) → Always (AreThere x g c) n ms → IsHeldAfter x g started c bound n ms
+  held_past : (bound : ℕ) (ms : List Move) (n : Network) → Always (IsNextHop x g c) n ms → IsHeldAfter x g started c bound n ms
       → HoldsPast started bound (IsHeld x g c) n ms
   held_past bound [] n there f = tt
   held_past bound (m ∷ ms) n there f = (λ past. go past f.0, held_past bound ms (moved n m).1 there.1 f.1)
     where
-      here : AreThere x g c (moved n m).1
-      here = first_of (AreThere x g c) (moved n m).1 ms there.1
+      here : IsNextHop x g c (moved n m).1
+      here = first_of (IsNextHop x g c) (moved n m).1 ms there.1
 
       go : ArePast started bound (moved n m).1 → IsBy started c.upper bound (moved n m).1 ⊎ IsHeld x g c (moved n m).1 → IsHeld x g c (moved n m).1
       go past (inl by) =
@@ -123,13 +123,13 @@ module _ (x : Join) (g : ℕ) (started : ℕ → ℕ) (c : Pair) where
 
     -- from when the lower one wants
     from_then : (ms : List Move) (n : Network) → (lower : IsReady c.lower n) → IsReady c.upper n → IsNear x g c.lower n
-        → Always (AreThere x g c) n ms → AreInTime x g d started c n ms → Always (Wants x g c.lower) n ms
+        → Always (IsNextHop x g c) n ms → AreInTime x g d started c n ms → Always (Wants x g c.lower) n ms
         → time_at started c.lower lower.station ≤ bound + 3 * lag → HoldsPast started next (IsHeld x g c) n ms
     from_then ms n lower upper near there in_time wants soon =
         held_past next ms n there
         (later x g started c ((timer).row.end + started c.lower + 2 * d) next
         (within ((timer).row).end ((lower.station).state).present (started c.lower) (near lower.station (timer).row lower.there (timer).is) soon) ms n
-        (joins_come_to_be_held x g d started c n ms lower.station (timer).row isg few apart lower upper there in_time wants lower.there (timer).is))
+        (joins_over_rpf_are_held x g d started c n ms lower.station (timer).row isg few apart lower upper there in_time wants lower.there (timer).is))
       where
         want : Wants x g c.lower n
         want = first_of (Wants x g c.lower) n ms wants
@@ -143,7 +143,7 @@ module _ (x : Join) (g : ℕ) (started : ℕ → ℕ) (c : Pair) where
         within e p q a b = omega (arith, a, b)
 
     pub climbs : (ms : List Move) (n : Network) → IsReady c.lower n → IsReady c.upper n → IsNear x g c.lower n
-        → HoldsPast started bound (AreThere x g c) n ms → HoldsPastOn started bound (AreInTime x g d started c) n ms
+        → HoldsPast started bound (IsNextHop x g c) n ms → HoldsPastOn started bound (AreInTime x g d started c) n ms
         → Always (AreTogether lag started) n ms → HoldsPast started bound (Wants x g c.lower) n ms → IsBy started c.lower (bound + lag) n
         → HoldsPast started next (IsHeld x g c) n ms
     climbs [] n lower upper near there in_time together wants early = tt
@@ -183,7 +183,7 @@ module _ (x : Join) (g : ℕ) (started : ℕ → ℕ) (c : Pair) where
             let over : Over (moved n m).1 = record { station = (then).station; there = (then).there; over = lt _ _ is } in
             let past : ArePast started bound (moved n m).1 = all_past (moved n m).1 now over in
             from_then ms (moved n m).1 then above (near_then n m lower near)
-            (holds_always (AreThere x g c) ms (moved n m).1 over (there.0 past) together.1 there.1) (in_time.0 past)
+            (holds_always (IsNextHop x g c) ms (moved n m).1 over (there.0 past) together.1 there.1) (in_time.0 past)
             (holds_always (Wants x g c.lower) ms (moved n m).1 over (wants.0 past) together.1 wants.1) soon
 
 -- ---- a way
@@ -194,7 +194,7 @@ pub record IsHopPast (x : Join) (g d bound : ℕ) (started : ℕ → ℕ) (n : N
   pub lower_ready : IsReady c.lower n
   pub upper_ready : IsReady c.upper n
   pub near : IsNear x g c.lower n
-  pub there : HoldsPast started bound (AreThere x g c) n ms
+  pub there : HoldsPast started bound (IsNextHop x g c) n ms
   pub in_time : HoldsPastOn started bound (AreInTime x g d started c) n ms
   pub unlost : HoldsPast started bound (IsUnlost x g c) n ms
 
@@ -219,7 +219,7 @@ throughout x g d bound started n ms (c ∷ cs) r hops = (
     lower_ready = (hops.1).lower_ready;
     upper_ready = (hops.1).upper_ready;
     near = (hops.1).near;
-    there = throughout_past started bound (AreThere x g c) ms n (hops.1).there;
+    there = throughout_past started bound (IsNextHop x g c) ms n (hops.1).there;
     in_time = in_time_on x g d bound started c ms n (hops.1).in_time;
     unlost = throughout_past started bound (IsUnlost x g c) ms n (hops.1).unlost;
   },
@@ -246,7 +246,7 @@ module _ (x : Join) (g d lag : ℕ) (started : ℕ → ℕ) (n : Network) (ms : 
     rest met cs (bound + a_hop d lag) c.upper (low_still bound low) hops.2
         (wants_past x g started c (bound + a_hop d lag) ms n held
         (later_past started (bound + a_hop d lag) met (low_still bound low) (IsUnlost x g c) ms n (hops.1).unlost)
-        (later_past started (bound + a_hop d lag) met (low_still bound low) (AreThere x g c) ms n (hops.1).there))
+        (later_past started (bound + a_hop d lag) met (low_still bound low) (IsNextHop x g c) ms n (hops.1).there))
         (above_by c (bound + lag) (bound + a_hop d lag + lag) (further bound) (hops.1).lower_ready by),
   )
     where
@@ -262,7 +262,7 @@ module _ (x : Join) (g d lag : ℕ) (started : ℕ → ℕ) (n : Network) (ms : 
       held : HoldsPast started (bound + a_hop d lag) (IsHeld x g c) n ms
       held =
           climbs x g started c d lag bound isg few (hops.1).apart ms n (hops.1).lower_ready (hops.1).upper_ready (hops.1).near
-          (later_past started bound met low (AreThere x g c) ms n (hops.1).there)
+          (later_past started bound met low (IsNextHop x g c) ms n (hops.1).there)
           (later_past_on started bound met low (AreInTime x g d started c) ms n (hops.1).in_time) together
           (subst (λ (q : ℕ). HoldsPast started bound (Wants x g q) n ms) (sym hops.0) wants) by
 
@@ -276,7 +276,7 @@ module _ (x : Join) (g d lag : ℕ) (started : ℕ → ℕ) (n : Network) (ms : 
     held,
     rest bound cs bound c.upper (same bound) (throughout x g d bound started n ms cs c.upper hops.2)
         (wants_past x g started c bound ms n held (throughout_past started bound (IsUnlost x g c) ms n (hops.1).unlost)
-        (throughout_past started bound (AreThere x g c) ms n (hops.1).there))
+        (throughout_past started bound (IsNextHop x g c) ms n (hops.1).there))
         (above_by c bound (bound + lag) (same (bound + lag)) ready by.early),
   )
     where
@@ -302,7 +302,7 @@ module _ (x : Join) (g d lag : ℕ) (started : ℕ → ℕ) (n : Network) (ms : 
           held_past x g started c bound ms n (hops.1).there
           (later x g started c (((timer).row).end + started c.lower + 2 * d) bound
           ((by).next (ready).station (timer).row (ready).there (timer).is) ms n
-          (joins_come_to_be_held x g d started c n ms (ready).station (timer).row isg few (hops.1).apart ready (hops.1).upper_ready
+          (joins_over_rpf_are_held x g d started c n ms (ready).station (timer).row isg few (hops.1).apart ready (hops.1).upper_ready
           (hops.1).there (hops.1).in_time wants_it (ready).there (timer).is))
 
 pub way_comes_to_be_joined : WayComesToBeJoined

@@ -10,14 +10,14 @@ use Rattle.law_converges.{proofs.{Inside.{IsFrom, copied_from}, NothingElse.{IsP
 -- ---- for how long
 
 -- a cause of a moment is one at once, and isn't over yet
-asks_at_once : (s : State) (i g src now : ℕ) → s.present ≤ now → (o : Option Accepted) → asks_for now i g src s o ≡ true
+pub asks_at_once : (s : State) (i g src now : ℕ) → s.present ≤ now → (o : Option Accepted) → asks_for now i g src s o ≡ true
     → asks_for s.present i g src s o ≡ true
 unfolding asks_for is_join_for is_report_for
 asks_at_once s i g src now le (Some (Accepted.JoinPruneToMe j m)) e = grind (arith, nat_tests, le, e)
 asks_at_once s i g src now le (Some (Accepted.Report j records)) e = grind (arith, nat_tests, le, e)
 asks_at_once s i g src now le o e = cc e
 
-asks_soon : (s : State) (life i g src now : ℕ) → (o : Option Accepted) → lasts_within life i s o ≡ true → asks_for now i g src s o ≡ true
+pub asks_soon : (s : State) (life i g src now : ℕ) → (o : Option Accepted) → lasts_within life i s o ≡ true → asks_for now i g src s o ≡ true
     → now < s.present + life
 unfolding asks_for is_join_for is_report_for
 asks_soon s life i g src now (Some (Accepted.JoinPruneToMe j m)) lasts e = grind (arith, nat_tests, lasts, e)
@@ -32,21 +32,21 @@ text_of : Emission → List ℕ
 text_of (Emission.Link i bytes) = bytes
 text_of (Emission.Unicast to bytes) = bytes
 
-same_link : (i j : ℕ) (a b : List ℕ) → on_link i a ≡ on_link j b → i ≡ j
+pub same_link : (i j : ℕ) (a b : List ℕ) → on_link i a ≡ on_link j b → i ≡ j
 unfolding link_of
 same_link i j a b e = ap link_of e
 
-same_text : (i j : ℕ) (a b : List ℕ) → on_link i a ≡ on_link j b → a ≡ b
+pub same_text : (i j : ℕ) (a b : List ℕ) → on_link i a ≡ on_link j b → a ≡ b
 unfolding text_of
 same_text i j a b e = ap text_of e
 
-no_later : (a : ℕ) → a ≤ a
+pub no_later : (a : ℕ) → a ≤ a
 no_later a = omega arith
 
 -- ---- at one router
 
 -- by an event something is a cause, or was so before
-asked_or_before : (past : Past) (h : Happened) (i g src now : ℕ) → has_cause (Passed.Happening h ∷ past) now i g src ≡ true
+pub asked_or_before : (past : Past) (h : Happened) (i g src now : ℕ) → has_cause (Passed.Happening h ∷ past) now i g src ≡ true
     → (asks_for now i g src h.before (done_as h) ≡ true) ⊎ (has_cause past now i g src ≡ true)
 unfolding has_cause
 asked_or_before past h i g src now e =

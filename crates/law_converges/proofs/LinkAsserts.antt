@@ -1,12 +1,12 @@
 -- An Assert that a router takes: who gives way to it, and who answers it.
-use Rattle.std.{proofs.{Common.{◌≡◌, ◌∙◌, ℕ, ◌+◌, ◌≤◌, ◌&&◌, ◌==◌, not, nat_lt, Bool, true, false, cond, is_some, List, [], ◌∷◌, ◌++◌, ◌⊎◌, inl, inr, length, Option, Some, None, Ok, refl, sym, ap, subst, arith, append-nil}, lemmas.{Bool.Decides.nat_tests, List.Elements.{Contains-append_left}}}, specs.List.Contains}
+use Rattle.std.{proofs.{Common.{◌≡◌, ◌∙◌, ℕ, ◌+◌, ◌≤◌, ◌&&◌, ◌||◌, ◌==◌, not, nat_lt, Bool, true, false, cond, is_some, List, [], ◌∷◌, ◌++◌, ◌⊎◌, inl, inr, length, Option, Some, None, Ok, refl, sym, ap, subst, arith, append-nil}, lemmas.{Bool.Decides.nat_tests, List.Elements.{Contains-append_left}}}, specs.{List.Contains, Option.option_map_or}}
 use Rattle.pim_ip.{specs.{declared.addr.Addr.Addr, Addr.addr, Checksum.with_checksum, Ipv4.{Packet, all_pim_routers, frame_limit, header_text, ipv4_reading, is_source, packet_limit, pim_packet_text, protocol_pim}, View.written_packet}, proofs.ViewLemmas.written_reads}
 use Rattle.pim_types.{specs.{Keys.{group_in, iface_in, same_key, source_in, source_key, star_key}, declared.{config.IfaceId.IfaceId, event.{Event.Event, EventKind.EventKind}, fact.{AssertMetric.AssertMetric, AssertRow.AssertRow, Key.Key}, outcome.Emission.Emission}}, proofs.Keys.{equal_keys, same_key_same}}
 use Rattle.pim_wire.{specs.{Asserts.assert_text, Encoded.pim_text, Messages.pim_reading, declared.{assert.Assert.Assert as AssertMessage, view.PimView.PimView}}, proofs.Laws.assert_reads}
-use Rattle.pim_model.{specs.{declared.accepted.Accepted.Accepted, Asserts.{assert_as_loser, assert_as_winner, assert_at, assert_forgotten, assert_message, assert_received, asserted_metric, is_inferior, loses, theirs_of, wins_again, without_spt_bit}, Cause.done_as, Clearing.clear, Firing.settled, Judging.{assert_judged, frame_judged, judged, packet_judged, pim_judged, pim_message_judged}, Messages.Message, Network.{Deliver, Move, Network, Station, frame_at, moved, network_ran, station_at}, Querier.each_in_turn, Registers.settle_registers, Sets.{is_better, is_winner}, State.{Addressing, State, address_among, iface_count, my_address}, Step.{Answered, Change, change, done, step}, Tables.{Table, drop_at, has_row, row_at}, Upstream.upstream, Writing.{all_written, emission_of, on_link, pim_on_link, with_owed_hello, write_all, written}}}
+use Rattle.pim_model.{specs.{declared.accepted.Accepted.Accepted, Asserts.{assert_as_loser, assert_as_winner, assert_at, assert_forgotten, assert_in_no_info, assert_message, assert_received, asserted_metric, is_acceptable, is_challenge, is_inferior, is_of_tree, is_tracking_at, loses, loses_first, my_metric_at, theirs_of, wins_again, with_spt_bit, without_spt_bit}, Cause.done_as, Clearing.clear, Firing.settled, Judging.{assert_judged, frame_judged, judged, packet_judged, pim_judged, pim_message_judged}, Messages.Message, Network.{Deliver, Move, Network, Station, frame_at, moved, network_ran, station_at}, Querier.each_in_turn, Registers.settle_registers, Sets.{is_better, is_winner}, State.{Addressing, State, address_among, iface_count, my_address}, Step.{Answered, Change, change, done, step}, Tables.{Table, drop_at, has_row, row_at}, Upstream.upstream, Writing.{all_written, emission_of, on_link, pim_on_link, with_owed_hello, write_all, written}}}
 use Rattle.law_settled.{proofs.{RowLaws.{has_row_without, row_drop_away, row_put}, SettlingLaws.kept_by_clearing, Unsettled.{Unsettled, Untold, cleared_in_the_end, settling_leaves}}}
 use Rattle.law_streams.{specs.{Adjacent.Adjacent, Copies.happens, Joins.Hears}, proofs.{Deliveries.{IsNewOn, IsStepped, is_delivered, is_stepped}, Leaves.{ends_configured, taken_is_done, told_configured}, Made.step_taken, Climbing.frames_stay, Lasting.{Whole, assert_whole}, Passes.done_if, ReadBack.within_range}}
-use Rattle.law_converges.{specs.LinkAsserts.{AnswersBy, CanGiveWay, GivesWayToAssert, HasLost, IsAsserted, IsSayable, LosesTo, OneWinnerIsLeft, WinnerAnswersAssert, assert_packet, gives_way, is_about, key_about, lost_to, said}, proofs.TakesOver.moved_so}
+use Rattle.law_converges.{specs.LinkAsserts.{AnswersBy, CanGiveWay, GivesWayToAssert, HasLost, IsAsserted, IsSayable, LosesTo, OneWinnerIsLeft, WinnerAnswersAssert, assert_packet, gives_way, is_about, key_about, loses_to, lost_to, said}, proofs.{AssertRows.assert_by_row, TakesOver.moved_so}}
 
 -- ---- rows
 
@@ -150,14 +150,91 @@ module _ (s : State) (i from : ℕ) (a : AssertMessage) (r : AssertRow) (about :
   unfolding loses
   row_lost e = ap (λ (x : State). row_at x.asserts k) (state_is ∙ gives e) ∙ row_put k (lost_to theirs (s.present + 180000)) s.asserts
 
-  lost_then : gives_way s k r theirs ≡ true → HasLost k theirs (s.present + 180000) (assert_received s i from a).0
-  lost_then e = inr (row_lost e)
+  -- where a winner answers it its timer runs again
+  pub again : is_winner (Some r) ≡ true → is_better theirs r.winner ≡ false → is_inferior s k theirs ≡ true
+      → (assert_received s i from a).0 ≡ (wins_again s k r).0
+  unfolding assert_at assert_as_winner
+  again wins off inferior = state_is ∙ is
+    where
+      is : (assert_at s k theirs).0 ≡ (wins_again s k r).0
+      is = grind arith
+
+-- who gives way to it loses to it
+pub by_row : (s : State) (k : Key) (theirs : AssertMetric) (r : AssertRow) → row_at s.asserts k ≡ Some r → gives_way s k r theirs ≡ true
+    → loses_to s k theirs ≡ true
+by_row s k theirs r found gives = rw found gives
+
+-- whoever loses to it has lost, whatever it had
+module _ (s : State) (i from : ℕ) (a : AssertMessage) (about : is_about a ≡ true) where
+  abbrev its : Key
+  its = key_about i a
+
+  abbrev better : AssertMetric
+  better = theirs_of a from
+
+  module _ (none : row_at s.asserts its ≡ None) (loses : (is_acceptable s its better && (is_of_tree its better && is_tracking_at s its)) ≡ true) where
+    no_worse : (m q : AssertMetric) → is_better m q ≡ true → is_better q m ≡ false
+    unfolding is_better
+    no_worse m q e = grind (arith, nat_tests, e)
+
+    no_challenge : is_challenge s its better ≡ false
+    no_challenge = off _ _ _ _ _ _ _ _ loses (no_worse better (my_metric_at s its))
+      where
+        off : (could star rpt mine theirs finite bounded tracks : Bool) → ((theirs && finite) && ((star || not rpt) && tracks)) ≡ true
+            → (theirs ≡ true → mine ≡ false) → (could && ((rpt && not star) || (mine && not bounded))) ≡ false
+        off could star rpt mine theirs finite bounded tracks e lower = grind arith
+
+    loses_it : assert_in_no_info s its better ≡ (loses_first s its better, [])
+    unfolding assert_in_no_info
+    loses_it = grind (arith, no_challenge)
+
+    first_row : row_at (loses_first s its better).asserts its ≡ Some (lost_to better (s.present + 180000))
+    unfolding loses_first loses with_spt_bit
+    first_row = grind (arith, row_put)
+
+    at_its : assert_at s its better ≡ (loses_first s its better, [])
+    at_its = assert_by_row s its better None none ∙ loses_it
+
+    received_first : (assert_received s i from a).0 ≡ (assert_at s its better).0
+    unfolding assert_received
+    received_first = go (a.source.bits == 0) refl
+      where
+        go : (b : Bool) → (a.source.bits == 0) ≡ b → (assert_received s i from a).0 ≡ (assert_at s its better).0
+        go true e = grind arith
+        go false e = grind arith
+
+    first_lost : row_at (assert_received s i from a).0.asserts its ≡ Some (lost_to better (s.present + 180000))
+    first_lost =
+        ap (λ (x : State). row_at x.asserts its) received_first ∙ (ap (λ (p : State × List Message). row_at (p.0).asserts its) at_its ∙ first_row)
+
+  pub row_loses : loses_to s its better ≡ true → row_at (assert_received s i from a).0.asserts its ≡ Some (lost_to better (s.present + 180000))
+  row_loses e = go (row_at s.asserts its) refl e
+    where
+      go : (o : Option AssertRow) → row_at s.asserts its ≡ o
+          → option_map_or (λ (r : AssertRow). gives_way s its r better) o
+          (is_acceptable s its better && (is_of_tree its better && is_tracking_at s its)) ≡ true
+          → row_at (assert_received s i from a).0.asserts its ≡ Some (lost_to better (s.present + 180000))
+      go None none e = first_lost none e
+      go (Some r) found e = row_lost s i from a r about found e
 
 -- ---- the event
+
+loses_by : (i : IfaceId) (from : Addr) (a : AssertMessage) (s : State) (e : Event) → done_as (happens s e) ≡ Some (Accepted.Assert i from a)
+    → is_about a ≡ true → loses_to s (key_about i.number a) (theirs_of a from.bits) ≡ true
+    → HasLost (key_about i.number a) (theirs_of a from.bits) (s.present + 180000) (step s e).state
+unfolding done change
+loses_by i from a s e taken about loses =
+    subst (λ (x : Answered). HasLost (key_about i.number a) (theirs_of a from.bits) (s.present + 180000) x.state)
+    (sym (step_taken s e (Accepted.Assert i from a) taken ∙ taken_is_done s e.draw (Accepted.Assert i from a) refl))
+    (settled_row (key_about i.number a) (lost_to (theirs_of a from.bits) (s.present + 180000)) s (assert_received s i.number from.bits a) e.draw
+    (inr (row_loses s i.number from.bits a about loses)))
 
 module _ (k : Key) (r : AssertRow) (i : IfaceId) (from : Addr) (a : AssertMessage) (s : State) (e : Event) (f : IsAsserted k r i from a s e) where
   abbrev own : State × List Message
   own = assert_received s i.number from.bits a
+
+  abbrev about_key : Key
+  about_key = key_about i.number a
 
   is_done : step s e ≡ done s e.draw (change s e.draw (Accepted.Assert i from a))
   is_done = step_taken s e (Accepted.Assert i from a) f.taken ∙ taken_is_done s e.draw (Accepted.Assert i from a) refl
@@ -167,18 +244,12 @@ module _ (k : Key) (r : AssertRow) (i : IfaceId) (from : Addr) (a : AssertMessag
 
   has_lost : gives_way s k r (theirs_of a from.bits) ≡ true
       → HasLost k (theirs_of a from.bits) (s.present + 180000) (step s e).state
-  unfolding done change
   has_lost gives =
-      subst (λ (x : Answered). HasLost k (theirs_of a from.bits) (s.present + 180000) x.state) (sym is_done)
-      (settled_row k (lost_to (theirs_of a from.bits) (s.present + 180000)) s own e.draw
-      (subst (λ (j : Key). HasLost j (theirs_of a from.bits) (s.present + 180000) own.0) f.key
-      (lost_then s i.number from.bits a r f.about row_here
-      (ap (λ (j : Key). gives_way s j r (theirs_of a from.bits)) f.key ∙ gives))))
+      subst (λ (j : Key). HasLost j (theirs_of a from.bits) (s.present + 180000) (step s e).state) f.key
+      (loses_by i from a s e f.taken f.about
+      (by_row s about_key (theirs_of a from.bits) r row_here (ap (λ (j : Key). gives_way s j r (theirs_of a from.bits)) f.key ∙ gives)))
 
   -- ---- the answer
-
-  abbrev about_key : Key
-  about_key = key_about i.number a
 
   abbrev answer : ℕ → ℕ → ℕ → Emission
   answer j g src = on_link j (assert_packet (my_address s j) g src (asserted_metric s about_key))
@@ -277,8 +348,7 @@ module _ (g src : ℕ) (metric : AssertMetric) (c : Adjacent) (sayable : IsSayab
   loses_then = record {
     state = (step st.state comes).state;
     there = (taken).here;
-    lost = gives_way_to_assert (key_about c.down (said g src metric)) can.row at_iface (addr c.address) (said g src metric) st.state comes
-        (record { taken = heard; about = about; key = refl; row = can.found }) can.gives;
+    lost = loses_by at_iface (addr c.address) (said g src metric) st.state comes heard about can.gives;
   }
 
 module _ (g src : ℕ) (metric : AssertMetric) (c : Adjacent) (n : Network) (m : Move) (f : AnswersBy g src metric c n m) where

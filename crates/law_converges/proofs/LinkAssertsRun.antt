@@ -47,8 +47,6 @@ can_give_way = record {
   hears = record { configured = lit≤ tt; up = refl; neighbour = refl; other = refl };
   linked = refl;
   room = refl;
-  row = record { role = AssertRole.Winner; winner = metric_of true 110 21 (address 10 0 1 2); end = 177000 };
-  found = refl;
   gives = refl;
 }
 

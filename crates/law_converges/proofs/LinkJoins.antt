@@ -1,8 +1,8 @@
 -- What routers join comes to be held by the next hop of each: what holds of two, for all.
 use Rattle.std.{proofs.Common.{ℕ, ◌+◌, ◌*◌, ◌<◌, ◌≤◌, List, [], ◌∷◌, ◌⊎◌, inl, inr, arith}}
 use Rattle.pim_model.{specs.Network.{Move, Network, moved}}
-use Rattle.law_streams.{specs.InTimeJoins.{Always, AreThere, IsBy, IsHeld, IsHeldAfter, Join, Pair, time_at}, proofs.Pairs.joins_come_to_be_held}
-use Rattle.law_converges.{specs.LinkJoins.{AllComeToBeHeld, AllHeldAfter, HopsPast, IsPairOf, JoinsOver}}
+use Rattle.law_streams.{specs.InTimeJoins.{Always, IsBy, IsHeld, IsHeldAfter, Join, Pair, time_at}}
+use Rattle.law_converges.{proofs.JoinsOverRpf.joins_over_rpf_are_held, specs.{LinkJoins.{AllComeToBeHeld, AllHeldAfter, HopsPast, IsPairOf, JoinsOver}, RpfJoins.IsNextHop}}
 
 pub too_late : (a b : ℕ) → a ≤ b → b < a → ⊥
 too_late a b e f = omega (arith, e, f)
@@ -25,7 +25,7 @@ module _ (x : Join) (g : ℕ) (started : ℕ → ℕ) where
       go (inr held) = inr held
 
   module _ (cs : List Pair) (bound : ℕ) where
-    walk : (ms : List Move) (n : Network) → ((c : Pair) → IsPairOf cs c → Always (AreThere x g c) n ms)
+    walk : (ms : List Move) (n : Network) → ((c : Pair) → IsPairOf cs c → Always (IsNextHop x g c) n ms)
         → ((c : Pair) → IsPairOf cs c → IsHeldAfter x g started c bound n ms) → AllHeldAfter x g started cs bound n ms
     walk [] n there held = tt
     walk (m ∷ ms) n there held = (now, walk ms (moved n m).1 (λ c a. (there c a).1) (λ c a. (held c a).1))
@@ -33,8 +33,8 @@ module _ (x : Join) (g : ℕ) (started : ℕ → ℕ) where
         now : HopsPast started cs bound (moved n m).1 → (c : Pair) → IsPairOf cs c → IsHeld x g c (moved n m).1
         now past c a = go (held c a).0
           where
-            here : AreThere x g c (moved n m).1
-            here = first_of (AreThere x g c) (moved n m).1 ms (there c a).1
+            here : IsNextHop x g c (moved n m).1
+            here = first_of (IsNextHop x g c) (moved n m).1 ms (there c a).1
 
             go : IsBy started c.upper bound (moved n m).1 ⊎ IsHeld x g c (moved n m).1 → IsHeld x g c (moved n m).1
             go (inl by) =
@@ -48,4 +48,4 @@ all_come_to_be_held x g d bound started cs n ms isg few joins =
     one : (c : Pair) → JoinsOver x g d bound started n ms c → IsHeldAfter x g started c bound n ms
     one c f =
         later x g started c ((f.row).end + started c.lower + 2 * d) bound f.by ms n
-        (joins_come_to_be_held x g d started c n ms f.station f.row isg few f.apart f.lower_ready f.upper_ready f.there f.in_time f.wants f.is f.timer)
+        (joins_over_rpf_are_held x g d started c n ms f.station f.row isg few f.apart f.lower_ready f.upper_ready f.there f.in_time f.wants f.is f.timer)

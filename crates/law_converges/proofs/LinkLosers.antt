@@ -5,7 +5,7 @@ use Rattle.pim_types.{specs.declared.{config.IfaceId.IfaceId, event.{Event.Event
 use Rattle.pim_model.{specs.{declared.accepted.Accepted.Accepted, Asserts.assert_received, Cause.done_as, Network.{Move, Network, Station, frame_at, moved, station_at}, Sets.is_winner, State.{State}, Step.{Answered, change, done, step}, Tables.row_at}}
 use Rattle.law_settled.{specs.Ready.IsSettled}
 use Rattle.law_streams.{specs.{Adjacent.Adjacent, Copies.happens, InTimeJoins.{Always, IsBy, IsReady, time_at}}, proofs.{Deliveries.{IsNewOn, IsStepped, is_delivered}, Leaves.taken_is_done, Made.step_taken, Pairs.{Steps, frame_stays, one_router, ready_then, same_station}, Passes.done_if, Refresh.{Ever, EverAfter, Held, Keeps, Sent as SentBy, Soon, Turned, Turns, all_moves, comes_to_hold}}}
-use Rattle.law_converges.{specs.{LinkAsserts.{IsSayable, assert_packet, is_about, lost_to, said}, LinkLosers.{AssertComes, AssertComesBy, AssertInTime, AssertsBy, AssertsComeInTime, AssertsInTime, HasLostAfter, HasLostTo, LoserComesToStay, LoserStaysLoser, LosesBeyond, LosesUntil, Wins, loser_key, most_late_assert, survives, winner_key, winner_of}}, proofs.{LinkJoins.first_of, KeptLosses.{changed_rises, event_keeps_loss, stays_settled}, LinkAsserts.{assert_is_read, row_lost}, WinnerClock.{AssertLasts, EndsBy, each_event_assert}}}
+use Rattle.law_converges.{specs.{LinkAsserts.{IsSayable, assert_packet, is_about, lost_to, said}, LinkLosers.{AssertComes, AssertComesBy, AssertInTime, AssertsBy, AssertsComeInTime, AssertsInTime, HasLostAfter, HasLostTo, LoserComesToStay, LoserStaysLoser, LosesBeyond, LosesUntil, Wins, loser_key, most_late_assert, survives, winner_key, winner_of}}, proofs.{LinkJoins.first_of, KeptLosses.{changed_rises, event_keeps_loss, stays_settled}, LinkAsserts.{assert_is_read, row_loses}, WinnerClock.{AssertLasts, EndsBy, each_event_assert}}}
 
 module _ (g src : ℕ) (metric : AssertMetric) (d : ℕ) (started : ℕ → ℕ) (c : Adjacent) (few : d < most_late_assert) where
   abbrev its : Key
@@ -75,7 +75,7 @@ module _ (g src : ℕ) (metric : AssertMetric) (d : ℕ) (started : ℕ → ℕ)
           ap (λ (x : Answered). row_at x.state.asserts key) (step_taken hearer e heard is_done ∙ taken_is_done hearer f.draw heard refl)
           ∙ stays_settled key winner (hearer.present + 180000) hearer (assert_received hearer c.down c.address (said g src metric)) f.draw
           (record {
-            there = row_lost hearer c.down c.address (said g src metric) (f.can).row about (f.can).found (f.can).gives;
+            there = row_loses hearer c.down c.address (said g src metric) about (f.can).gives;
             rises = changed_rises hearer e heard rests is_done refl;
           }) f.stays
 
@@ -85,7 +85,7 @@ module _ (g src : ℕ) (metric : AssertMetric) (d : ℕ) (started : ℕ → ℕ)
       more : (a b q : ℕ) → a ≤ b + q → a + 180000 ≤ b + 180000 + q
       more a b q h = omega (arith, h)
 
-      held_then : HoldsTo (sent + 180000) (next n m)
+      pub held_then : HoldsTo (sent + 180000) (next n m)
       held_then = record {
         station = record f.station { state = (step hearer e).state };
         there = (steps).here;
@@ -235,7 +235,7 @@ module _ (g src : ℕ) (metric : AssertMetric) (d : ℕ) (started : ℕ → ℕ)
         less : (a b q : ℕ) → a + q ≤ y → l ≤ b + q → a < b
         less a b q e f = omega (arith, e, f, lt)
 
-    stays_held : HoldsTo l (moved n m).1
+    pub stays_held : HoldsTo l (moved n m).1
     stays_held = go (one_router n m c.upper held.station held.there)
       where
         go : (station_at (moved n m).1 c.upper ≡ Some held.station) ⊎ Steps n m c.upper held.station → HoldsTo l (moved n m).1

@@ -3,8 +3,8 @@ use Rattle.std.{proofs.{Common.{Bool, List, Some, [], ap, arith, cond, eq-eqb, e
 use Rattle.pim_types.{specs.{Keys.star_key, declared.fact.{AssertMetric.AssertMetric, AssertRow.AssertRow}}}
 use Rattle.pim_model.{specs.{Full.source_is_full, Neighbours.is_dr, Network.{Move, Network, Station, station_at}, Receivers.{is_exclude, local_receiver_exclude, local_receiver_star}, Sets.{assert_source, assert_star, immediate_olist_star, is_loser, is_winner, joins_star, lost_assert_star, pim_include_star, serves_star, spt_bit}, State.{State, iface_count, is_own, is_up}, Unicast.{is_rpf_interface, is_rpf_interface_rp}}}
 use Rattle.law_settled.{specs.Ready.IsSettled}
-use Rattle.law_streams.{proofs.{Pairs.same_station, Serves.on_the_tree, Taken.wanted_star}, specs.{InTimeJoins.{Always, AreThere, IsHeld, IsJoin, IsReady, Star, Wants}, Passing.{Passes, Receiver, Tree, is_asked}}}
-use Rattle.law_converges.{proofs.{CarriedNetwork.{carried_network_settles, one_lan}, CarriedWays.{HopsStand, its_lan, ready_past, served_once}, Past.{both_past, later_past, same_past, throughout_past}, RoutesToRp.within, Settles.one_of, Unheard.{HasState, none_lost_past}}, specs.{Carried.{Arrivals, Traffic}, CarriedNetwork.{Claim, ClaimIsQuiet, HopOn, IsOneLan, IsQuietPlan, Lan, LanIsQuiet, LoserIsQuiet, Plan, layout_of, number_of}, CarriedWays.{AreOnTree, forwarders, pair_on, root_of}, ComesOnce.{AreServedOnce, Forwards, HasOneOn}, LinkDr.{HasOneDr, IsDrOf, IsOne, Member, Stands, between, is_preferred}, LinkLosers.Wins, LinkMembers.KnowsGroup, MemberLinks.{AsDr, AsWinner, IsOneClaim, IsOneGroup, MemberIsWanted, Serves, ServesMember, Unbeaten, NoneBetter, Winner, to_hosts}, Past.{HoldsPast, HoldsPastOn}, Settles.{HasSettled, Link, LinkHasSettled, routers}}}
+use Rattle.law_streams.{proofs.{Pairs.same_station, Taken.wanted_star}, specs.{InTimeJoins.{Always, IsHeld, IsJoin, IsReady, Star, Wants}, Passing.{Passes, Receiver, Tree, is_asked}}}
+use Rattle.law_converges.{proofs.{CarriedNetwork.{carried_network_settles, one_lan}, CarriedWays.{HopsStand, its_lan, ready_past, served_once}, Past.{both_past, later_past, same_past, throughout_past}, RoutesToRp.within, RpfStays.on_tree_so, Settles.one_of, Unheard.{HasState, none_lost_past}}, specs.{Carried.{Arrivals, Traffic}, CarriedNetwork.{Claim, ClaimIsQuiet, HopOn, IsOneLan, IsQuietPlan, Lan, LanIsQuiet, LoserIsQuiet, Plan, layout_of, number_of}, CarriedWays.{AreOnTree, forwarders, pair_on, root_of}, ComesOnce.{AreServedOnce, Forwards, HasOneOn, Stream}, LinkDr.{HasOneDr, IsDrOf, IsOne, Member, Stands, between, is_preferred}, LinkLosers.Wins, LinkMembers.KnowsGroup, MemberLinks.{AsDr, AsWinner, IsOneClaim, IsOneGroup, MemberIsWanted, Serves, ServesMember, Unbeaten, NoneBetter, Winner, to_hosts}, Past.{HoldsPast, HoldsPastOn}, RpfJoins.IsNextHop, Settles.{HasSettled, Link, LinkHasSettled, routers}}}
 
 -- ---- lists
 
@@ -220,7 +220,7 @@ pub record ReachesHosts (g src up link : ℕ) (x : Member) (n : Network) : Type 
 record IsUnderWay (rp g : ℕ) (x : Member) (h : HopOn) (n : Network) : Type 0 where
   ready : IsReady x.router n
   stands : Stands (number_of h.lan) h.lower n
-  there : AreThere (Star rp) g (pair_on h) n
+  there : IsNextHop (Star rp) g (pair_on h) n
 
 record CanForward (g src rp : ℕ) (a : Lan) (x : Member) (h : HopOn) (n : Network) : Type 0 where
   serving : IsServing g x n
@@ -228,7 +228,7 @@ record CanForward (g src rp : ℕ) (a : Lan) (x : Member) (h : HopOn) (n : Netwo
   reaches : ReachesHosts g src (h.lower).iface (number_of a) x n
   ready : IsReady x.router n
   stands : Stands (number_of h.lan) h.lower n
-  there : AreThere (Star rp) g (pair_on h) n
+  there : IsNextHop (Star rp) g (pair_on h) n
 
 module _ (g src rp : ℕ) (a : Lan) (x : Member) (h : HopOn) (n : Network) (first : (h.lower).router ≡ x.router)
     (apart : (number_of a == number_of h.lan) ≡ false) (f : CanForward g src rp a x h n) where
@@ -282,7 +282,7 @@ module _ (g src rp : ℕ) (a : Lan) (x : Member) (h : HopOn) (n : Network) (firs
       foreign = (f.reaches).foreign;
       on = record {
         on_tree = at_lower (λ (z : Station). is_rpf_interface_rp z.state g (h.lower).iface ≡ true) (f.there).below (f.there).below_is
-            (on_the_tree ((f.there).below).state g (pair_on h).hop ((f.there).goes_up).next);
+            (on_tree_so rp g ((f.there).below).state (pair_on h).hop ((f.there).goes_over).rpf);
         source_too = (f.reaches).shared;
       };
     };
@@ -297,7 +297,7 @@ module _ (g src rp : ℕ) (a : Lan) (x : Member) (h : HopOn) (n : Network) (firs
   }
 
   forwards : Forwards g src (to_hosts a x h) n
-  forwards = record { station = st; there = here; passes = passes; above = linked; below = (f.reaches).one }
+  forwards = record { station = st; there = here; passes = Stream Tree.Shared Receiver.Host passes; above = linked; below = (f.reaches).one }
 
 -- from a limit on, which is no sooner than the bound, its next hops up to the RP hold the group, and are on the group's tree
 pub record IsOpenTo (g src rp bound limit : ℕ) (started : ℕ → ℕ) (lans : List Lan) (n : Network) (ms : List Move) (a : Lan) (x : Member)
@@ -349,11 +349,11 @@ module _ (g src rp d late lag bound limit : ℕ) (started : ℕ → ℕ) (t : Tr
       (later_past started limit bound o.later (HasNotLost g x) ms n o.unlost))
       (both (ReachesHosts g src (h.lower).iface (number_of a) x) Rest
       (λ n. ReachesHosts g src (h.lower).iface (number_of a) x n × Rest n) (λ n u v. (u, v)) o.reaches
-      (both (IsReady x.router) (λ n. Stands (number_of h.lan) h.lower n × AreThere (Star rp) g (pair_on h) n) Rest
+      (both (IsReady x.router) (λ n. Stands (number_of h.lan) h.lower n × IsNextHop (Star rp) g (pair_on h) n) Rest
       (λ n u v. record { ready = u; stands = v.0; there = v.1 })
       (ready_past started limit x.router ms n ((own).meet.ready x (among g d late lag bound started t came plan n ms a x q its)))
-      (both (Stands (number_of h.lan) h.lower) (AreThere (Star rp) g (pair_on h))
-      (λ n. Stands (number_of h.lan) h.lower n × AreThere (Star rp) g (pair_on h) n) (λ n u v. (u, v))
+      (both (Stands (number_of h.lan) h.lower) (IsNextHop (Star rp) g (pair_on h))
+      (λ n. Stands (number_of h.lan) h.lower n × IsNextHop (Star rp) g (pair_on h) n) (λ n u v. (u, v))
       (throughout_past started limit (Stands (number_of h.lan) h.lower) ms n (((above).meet).stand h.lower (((o.stand).1).on).lower))
       ((o.stand).1).there)))
     where

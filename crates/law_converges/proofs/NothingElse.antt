@@ -25,12 +25,12 @@ pub record IsPut (link number : ℕ) (bytes : List ℕ) (n : Network) (m : Move)
   pub brought : packet_in (done_as (happens station.state event)) ≡ Some packet
   pub text : bytes ≡ copy_text packet
 
-record GotOne (P : Emission → Type 0) (links : List ℕ) (f : Sent) : Type 0 where
-  emission : Emission
-  has : P emission
-  sent : sent_by links emission ≡ f
+pub record GotOne (P : Emission → Type 0) (links : List ℕ) (f : Sent) : Type 0 where
+  pub emission : Emission
+  pub has : P emission
+  pub sent : sent_by links emission ≡ f
 
-got_one : (P : Emission → Type 0) (links : List ℕ) (f : Sent) (xs : List Emission) (i : ℕ) → AllByRecursion P xs
+pub got_one : (P : Emission → Type 0) (links : List ℕ) (f : Sent) (xs : List Emission) (i : ℕ) → AllByRecursion P xs
     → slice_get (map (sent_by links) xs) i ≡ Some f → GotOne P links f
 got_one P links f [] i all e = cc e
 got_one P links f (x ∷ xs) zero all e = record { emission = x; has = all.0; sent = same e }
@@ -38,6 +38,56 @@ got_one P links f (x ∷ xs) zero all e = record { emission = x; has = all.0; se
     same : (let o : Option Sent = Some (sent_by links x) in o) ≡ Some f → sent_by links x ≡ f
     same e = cc e
 got_one P links f (x ∷ xs) (suc i) all e = got_one P links f xs i all.1 e
+
+-- a new frame is one of what a router's event sends
+pub record IsSentIn (number : ℕ) (f : Sent) (n : Network) (m : Move) : Type 0 where
+  pub router : ℕ
+  pub event : Event
+  pub is : event_of n m ≡ Some (router, event)
+  pub station : Station
+  pub at : station_at n router ≡ Some station
+  pub place : ℕ
+  pub got : slice_get (map (sent_by station.links) (step station.state event).emissions) place ≡ Some f
+
+module _ (number : ℕ) (f : Sent) (n : Network) (m : Move) (new : length n.frames < number) (got : frame_at (moved n m).1 number ≡ Some f) where
+  module _ (q : ℕ) (e : Event) (st : Station) (is : event_of n m ≡ Some (q, e)) (at : station_at n q ≡ Some st) where
+    sent_there : (k : ℕ) → frame_at (moved n m).1 (suc k) ≡ Some f
+        → slice_get (n.frames ++ map (sent_by st.links) (step st.state e).emissions) k ≡ Some f
+    unfolding frame_at stepped
+    sent_there k h = ap (λ (x : Network). slice_get x.frames k) (sym (moved_so n m q e st is at)) ∙ h
+
+    sent_as : (k : ℕ) → number ≡ suc k → IsSentIn number f n m
+    sent_as k same =
+        let b : Behind n.frames (map (sent_by st.links) (step st.state e).emissions) k f =
+        behind n.frames (map (sent_by st.links) (step st.state e).emissions) k f (omega (arith, new, same))
+        (sent_there k (subst (λ (j : ℕ). frame_at (moved n m).1 j ≡ Some f) same got)) in
+        record { router = q; event = e; is = is; station = st; at = at; place = b.place; got = b.got }
+
+  unchanged : (moved n m).1 ≡ n → IsSentIn number f n m
+  unchanged same = absurd (none_behind n number f new (subst (λ (x : Network). frame_at x number ≡ Some f) same got))
+
+  nobody : event_of n m ≡ None → (moved n m).1 ≡ n
+  unfolding moved
+  nobody is = rw is refl
+
+  no_router : (q : ℕ) (e : Event) → event_of n m ≡ Some (q, e) → station_at n q ≡ None → (moved n m).1 ≡ n
+  unfolding moved moved_at
+  no_router q e is none = rw is (rw none refl)
+
+  pub sent_in : IsSentIn number f n m
+  sent_in = go (event_of n m) refl
+    where
+      some_number : (k : ℕ) → number ≡ k → length n.frames < k → ((j : ℕ) → number ≡ suc j → IsSentIn number f n m) → IsSentIn number f n m
+      some_number zero same lt h = absurd (omega (arith, lt))
+      some_number (suc j) same lt h = h j same
+
+      by_station : (q : ℕ) (e : Event) → event_of n m ≡ Some (q, e) → (o : Option Station) → station_at n q ≡ o → IsSentIn number f n m
+      by_station q e is None none = unchanged (no_router q e is none)
+      by_station q e is (Some st) at = some_number number refl new (sent_as q e st is at)
+
+      go : (o : Option (ℕ × Event)) → event_of n m ≡ o → IsSentIn number f n m
+      go None is = unchanged (nobody is)
+      go (Some (q, e)) is = by_station q e is (station_at n q) refl
 
 module _ (g src link number : ℕ) (bytes : List ℕ) (far : is_link_local g ≡ false) (its : IsOfSource g src bytes) where
   abbrev f : Sent
@@ -47,71 +97,40 @@ module _ (g src link number : ℕ) (bytes : List ℕ) (far : is_link_local g ≡
   goes_far = ap is_link_local its.group ∙ far
 
   module _ (n : Network) (m : Move) (new : length n.frames < number) (got : frame_at (moved n m).1 number ≡ Some f) where
-    module _ (q : ℕ) (e : Event) (st : Station) (is : event_of n m ≡ Some (q, e)) (at : station_at n q ≡ Some st) where
-      by_kind : (x : Emission) → sent_by st.links x ≡ f → IsOfAKind st.state e x → IsPut link number bytes n m
-      by_kind x sent (inl message) =
-          absurd (isnt_message its.packet bytes its.reads its.is_data goes_far st.links link x message sent)
-      by_kind x sent (inr (inr register)) =
-          absurd (isnt_register its.packet bytes its.reads its.is_data goes_far st.links link register.from register.rp _
-          (ap (sent_by st.links) (sym register.is) ∙ sent))
-      by_kind x sent (inr (inl (among, low))) =
-          let there : sent_by st.links (on_link low.link (copy_text low.packet)) ≡ f = ap (sent_by st.links) (sym low.is) ∙ sent in
-          let text : copy_text low.packet ≡ bytes = ap (λ (s : Sent). s.bytes) there in
-          record {
-            router = q;
-            event = e;
-            is = is;
-            station = st;
-            at = at;
-            iface = low.link;
-            linked = ap (λ (s : Sent). s.link) there;
-            copied = subst (λ (b : List ℕ). Contains (copies_at st.state e) (on_link low.link b)) text
-                (subst (Contains (copies_at st.state e)) low.is among);
-            packet = low.packet;
-            brought = low.brought;
-            text = sym text;
-          }
-
-      sent_there : (k : ℕ) → frame_at (moved n m).1 (suc k) ≡ Some f
-          → slice_get (n.frames ++ map (sent_by st.links) (step st.state e).emissions) k ≡ Some f
-      unfolding frame_at stepped
-      sent_there k h = ap (λ (x : Network). slice_get x.frames k) (sym (moved_so n m q e st is at)) ∙ h
-
-      put_by : (k : ℕ) → number ≡ suc k → IsPut link number bytes n m
-      put_by k same =
-          let b : Behind n.frames (map (sent_by st.links) (step st.state e).emissions) k f =
-          behind n.frames (map (sent_by st.links) (step st.state e).emissions) k f (omega (arith, new, same))
-          (sent_there k (subst (λ (j : ℕ). frame_at (moved n m).1 j ≡ Some f) same got)) in
-          let one : GotOne (IsOfAKind st.state e) st.links f =
-          got_one (IsOfAKind st.state e) st.links f (step st.state e).emissions b.place
-          (recursion_from_All (IsOfAKind st.state e) (step st.state e).emissions (each_emission_is_of_a_kind st.state e)) b.got in
-          by_kind one.emission one.sent one.has
-
-    unchanged : (moved n m).1 ≡ n → IsPut link number bytes n m
-    unchanged same = absurd (none_behind n number f new (subst (λ (x : Network). frame_at x number ≡ Some f) same got))
-
-    nobody : event_of n m ≡ None → (moved n m).1 ≡ n
-    unfolding moved
-    nobody is = rw is refl
-
-    no_router : (q : ℕ) (e : Event) → event_of n m ≡ Some (q, e) → station_at n q ≡ None → (moved n m).1 ≡ n
-    unfolding moved moved_at
-    no_router q e is none = rw is (rw none refl)
+    by_kind : (w : IsSentIn number f n m) (x : Emission) → sent_by (w.station).links x ≡ f → IsOfAKind (w.station).state w.event x
+        → IsPut link number bytes n m
+    by_kind w x sent (inl message) =
+        absurd (isnt_message its.packet bytes its.reads its.is_data goes_far (w.station).links link x message sent)
+    by_kind w x sent (inr (inr register)) =
+        absurd (isnt_register its.packet bytes its.reads its.is_data goes_far (w.station).links link register.from register.rp _
+        (ap (sent_by (w.station).links) (sym register.is) ∙ sent))
+    by_kind w x sent (inr (inl (among, low))) =
+        let there : sent_by (w.station).links (on_link low.link (copy_text low.packet)) ≡ f =
+        ap (sent_by (w.station).links) (sym low.is) ∙ sent in
+        let text : copy_text low.packet ≡ bytes = ap (λ (s : Sent). s.bytes) there in
+        record {
+          router = w.router;
+          event = w.event;
+          is = w.is;
+          station = w.station;
+          at = w.at;
+          iface = low.link;
+          linked = ap (λ (s : Sent). s.link) there;
+          copied = subst (λ (b : List ℕ). Contains (copies_at (w.station).state w.event) (on_link low.link b)) text
+              (subst (Contains (copies_at (w.station).state w.event)) low.is among);
+          packet = low.packet;
+          brought = low.brought;
+          text = sym text;
+        }
 
     pub put : IsPut link number bytes n m
-    put = go (event_of n m) refl
-      where
-        some_number : (k : ℕ) → number ≡ k → length n.frames < k → ((j : ℕ) → number ≡ suc j → IsPut link number bytes n m) → IsPut link number bytes n m
-        some_number zero same lt h = absurd (omega (arith, lt))
-        some_number (suc j) same lt h = h j same
-
-        by_station : (q : ℕ) (e : Event) → event_of n m ≡ Some (q, e) → (o : Option Station) → station_at n q ≡ o → IsPut link number bytes n m
-        by_station q e is None none = unchanged (no_router q e is none)
-        by_station q e is (Some st) at = some_number number refl new (put_by q e st is at)
-
-        go : (o : Option (ℕ × Event)) → event_of n m ≡ o → IsPut link number bytes n m
-        go None is = unchanged (nobody is)
-        go (Some (q, e)) is = by_station q e is (station_at n q) refl
+    put =
+        let w : IsSentIn number f n m = sent_in number f n m new got in
+        let one : GotOne (IsOfAKind (w.station).state w.event) (w.station).links f =
+        got_one (IsOfAKind (w.station).state w.event) (w.station).links f (step (w.station).state w.event).emissions w.place
+        (recursion_from_All (IsOfAKind (w.station).state w.event) (step (w.station).state w.event).emissions
+        (each_emission_is_of_a_kind (w.station).state w.event)) w.got in
+        by_kind w one.emission one.sent one.has
 
 framed_so : (n : Network) (k : ℕ) (f : Sent) → slice_get n.frames k ≡ Some f → frame_at n (suc k) ≡ Some f
 unfolding frame_at
@@ -119,10 +138,10 @@ framed_so n k f e = e
 
 -- ---- at one of the moves
 
-lt_so : (a b : ℕ) → nat_lt a b ≡ true → a < b
+pub lt_so : (a b : ℕ) → nat_lt a b ≡ true → a < b
 lt_so a b e = grind (arith, nat_tests, e)
 
-le_so : (a b : ℕ) → nat_lt a b ≡ false → b ≤ a
+pub le_so : (a b : ℕ) → nat_lt a b ≡ false → b ≤ a
 le_so a b e = grind (arith, nat_tests, e)
 
 module _ (number : ℕ) (f : Sent) (P : Network → Type 0) (Q R : Network → Move → Type 0)

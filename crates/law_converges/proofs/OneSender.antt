@@ -145,7 +145,7 @@ module _ (g src : ℕ) (metric : AssertMetric) (c : Adjacent) where
   throughout [] n lost off = silent n lost off
   throughout (m ∷ ms) n lost off = (silent n lost.0 off.0, throughout ms (moved n m).1 lost.1 off.1)
 
-  after_so : (started : ℕ → ℕ) (bound : ℕ) (ms : List Move) (n : Network) → HasLostAfter g src metric started c bound n ms
+  pub after_so : (started : ℕ → ℕ) (bound : ℕ) (ms : List Move) (n : Network) → HasLostAfter g src metric started c bound n ms
       → Always (IsOffTree g src metric c) n ms → IsSilentAfter g src started c bound n ms
   after_so started bound [] n lost off = tt
   after_so started bound (m ∷ ms) n lost off = (go lost.0, after_so started bound ms (moved n m).1 lost.1 off.1)

@@ -1,21 +1,21 @@
--- Whether routes lead up: a test, and that where it passes they do.
-use Rattle.std.{proofs.Common.{Bool, false, true, ℕ, ◌≡◌}, specs.Option.option_map_or}
+-- Whether routes lead up, and name the next hop: tests, and that where they pass it is so.
+use Rattle.std.{proofs.Common.{Bool, eqb-true, false, not, true, ℕ, ◌&&◌, ◌==◌, ◌≡◌}, specs.{Cmp.{first_so, second_so}, Option.option_map_or}}
+use Rattle.pim_types.{specs.declared.path.Path.Path}
 use Rattle.pim_model.{specs.{Network.{Network, Station, station_at}, State.is_own, Tables.hop_at}}
-use Rattle.law_streams.{specs.InTimeJoins.{AreThere, IsUnlost, Join, Star, way_to}}
-use Rattle.law_converges.{proofs.{RoutesToRp.{IsOver, next_path}, Tested.{Found, found}}, specs.{CarriedNetwork.HopOn, CarriedWays.pair_on, RoutesToRp.{EndsAt, IsRouted, NoneLost}}}
+use Rattle.law_streams.{specs.InTimeJoins.{IsUnlost, Join, Star, is_lost_at, way_to}}
+use Rattle.law_converges.{proofs.{RpfStays.{IsOver, over_rpf}, Tested.{Found, found, off_so}}, specs.{CarriedNetwork.HopOn, CarriedWays.pair_on, RoutesToRp.{ByRoute, EndsAt, IsChosen, IsNamed, IsRouted}, RpfJoins.IsNextHop}}
 
 -- ---- routes
 
--- a next hop over which a router joins is that of its route
-pub routed_so : (x : Join) (g : ℕ) (h : HopOn) (n : Network) → AreThere x g (pair_on h) n → IsRouted x g h n
+-- RPF' is over the LAN of its route
+pub routed_so : (x : Join) (g : ℕ) (h : HopOn) (n : Network) → IsNextHop x g (pair_on h) n → IsRouted x g h n
 routed_so x g h n f = record {
   below = f.below;
   below_is = f.below_is;
-  rp_below = (f.goes_up).rp_known;
+  rp_below = (f.goes_over).rp_known;
   path = (way).path;
   route = (way).is;
   over = (way).over;
-  to = (way).to;
   above = f.above;
   above_is = f.above_is;
   rp_above = (f.listens).rp_known;
@@ -23,17 +23,35 @@ routed_so x g h n f = record {
 }
   where
     way : IsOver (way_to x (f.below).state g) (hop_at (h.lower).iface (h.upper).address)
-    way = next_path x g (f.below).state (hop_at (h.lower).iface (h.upper).address) (f.goes_up).next
+    way = over_rpf x g (f.below).state (hop_at (h.lower).iface (h.upper).address) (f.goes_over).rpf
 
-pub none_lost_so : (x : Join) (g : ℕ) (h : HopOn) (n : Network) → AreThere x g (pair_on h) n → IsUnlost x g (pair_on h) n → NoneLost x g h n
-none_lost_so x g h n f u = record {
-  below = f.below;
-  below_is = f.below_is;
-  unlost_below = (f.goes_up).unlost;
-  above = u.station;
-  above_is = u.there;
-  unlost_above = u.unlost;
-}
+-- ---- whom a router joins over
+
+module _ (x : Join) (g : ℕ) (h : HopOn) where
+  -- the route names the next hop, and no assert is lost there
+  abbrev pub by_route : Network → Bool
+  by_route n =
+      option_map_or (λ (st : Station). option_map_or (λ (p : Path). p.next_hop.bits == (h.upper).address) (way_to x st.state g) false
+      && not (is_lost_at x st.state g (h.lower).iface)) (station_at n (h.lower).router) false
+
+  pub named_so : (n : Network) → by_route n ≡ true → IsNamed x g h n
+  named_so n e =
+      let f : Found Station _ (station_at n (h.lower).router) = found Station _ (station_at n (h.lower).router) e in
+      let p : Found Path _ (way_to x (f.it).state g) = found Path _ (way_to x (f.it).state g) (first_so _ _ f.passes) in
+      record { station = f.it; there = f.is; path = p.it; route = p.is; to = eqb-true _ _ p.passes }
+
+  pub by_route_so : (n : Network) → by_route n ≡ true → IsUnlost x g (pair_on h) n → IsChosen x g h n
+  by_route_so n e u =
+      let f : Found Station _ (station_at n (h.lower).router) = found Station _ (station_at n (h.lower).router) e in
+      let p : Found Path _ (way_to x (f.it).state g) = found Path _ (way_to x (f.it).state g) (first_so _ _ f.passes) in
+      record {
+        below = f.it;
+        below_is = f.is;
+        chooses = ByRoute p.it p.is (eqb-true _ _ p.passes) (off_so _ (second_so _ _ f.passes));
+        above = u.station;
+        above_is = u.there;
+        unlost_above = u.unlost;
+      }
 
 -- the RP
 abbrev pub ends_at : (rp r : ℕ) → Network → Bool

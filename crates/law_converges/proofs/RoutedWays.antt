@@ -1,13 +1,12 @@
 -- A way that follows the routes is joined by the bound, and so forwards the packets as any way does.
-use Rattle.std.{proofs.Common.{List, Option, Some, [], ap, arith, eq-eqb, false, map, option_map, subst, true, ℕ, ◌*◌, ◌+◌, ◌<◌, ◌∙◌, ◌∷◌, ◌≡◌, ◌≤◌}, specs.{List.AllByRecursion, Prelude.slice_get}}
-use Rattle.pim_types.{specs.declared.path.Path.Path}
-use Rattle.pim_model.{specs.{Network.{Move, Network, Station, station_at}, Sets.{assert_source, assert_star, is_loser, prunes}, State.{iface_count, is_up}, Tables.{hop_at, same_option}, Unicast.{is_rpf_interface_rp, rp_route, rpf_interface_rp}}}
-use Rattle.law_streams.{proofs.Pairs.same_station, specs.InTimeJoins.{AreThere, IsHeld, IsJoin, IsUnlost, Star}}
-use Rattle.law_converges.{proofs.{CarriedNetwork.one_lan, CarriedWays.{HopStands, HopsStand, none_besides, served_once, stand_later}, Past.{both_past, same_past, throughout_past}, RoutesToRp.{AreJoined, IsOver, all_meet, are_joined, next_path, within}}, specs.{Carried.{Arrivals, EachMove, Traffic}, CarriedNetwork.{HopOn, IsQuietPlan, Lan, LanIsQuiet, Plan, number_of}, CarriedWays.{AreOnTree, IsClear, forwarders, pair_on, root_of}, ComesOnce.{AllCameDown, AreAlonePast, AreServedOnce, Forwarder}, JoinedWays.a_hop, LinkDr.Stands, PassedOnce.IsOnTree, Past.{HoldsPast, HoldsPastOn}, RoutedWays.{AreFree, EveryWantIsServedOnce, IsFree, PassesDown, TakesIn}}}
+use Rattle.std.{proofs.Common.{List, Some, [], ap, arith, false, map, subst, true, ℕ, ◌*◌, ◌+◌, ◌<◌, ◌∙◌, ◌∷◌, ◌≡◌, ◌≤◌}, specs.{List.AllByRecursion, Prelude.slice_get}}
+use Rattle.pim_model.{specs.{Network.{Move, Network, Station, station_at}, Sets.{assert_source, assert_star, is_loser, prunes}, State.{iface_count, is_up}, Tables.hop_at, Unicast.is_rpf_interface_rp}}
+use Rattle.law_streams.{proofs.Pairs.same_station, specs.InTimeJoins.{IsHeld, IsJoin, IsUnlost, Star}}
+use Rattle.law_converges.{proofs.{CarriedNetwork.one_lan, CarriedWays.{HopStands, HopsStand, none_besides, served_once, stand_later}, Past.{both_past, same_past, throughout_past}, RoutesToRp.{AreJoined, all_meet, are_joined, within}, RpfStays.on_tree_so}, specs.{Carried.{Arrivals, EachMove, Traffic}, CarriedNetwork.{HopOn, IsQuietPlan, Lan, LanIsQuiet, Plan, number_of}, CarriedWays.{AreOnTree, IsClear, forwarders, pair_on, root_of}, ComesOnce.{AllCameDown, AreAlonePast, AreServedOnce, Forwarder}, JoinedWays.a_hop, LinkDr.Stands, PassedOnce.IsOnTree, Past.{HoldsPast, HoldsPastOn}, RoutedWays.{AreFree, EveryWantIsServedOnce, IsFree, PassesDown, TakesIn}, RpfJoins.IsNextHop}}
 
 -- ---- at one network: what the routes and the LANs say of a next hop
 
-module _ (g src rp : ℕ) (h : HopOn) (n : Network) (there : AreThere (Star rp) g (pair_on h) n) (unlost : IsUnlost (Star rp) g (pair_on h) n)
+module _ (g src rp : ℕ) (h : HopOn) (n : Network) (there : IsNextHop (Star rp) g (pair_on h) n) (unlost : IsUnlost (Star rp) g (pair_on h) n)
     (free : IsFree g src h n) where
   clear : IsClear g src (pair_on h) n
   clear = record {
@@ -26,19 +25,13 @@ module _ (g src rp : ℕ) (h : HopOn) (n : Network) (there : AreThere (Star rp) 
   }
 
   -- one that has another above it
-  module _ (k : HopOn) (same : (k.lower).router ≡ (h.upper).router) (above : AreThere (Star rp) g (pair_on k) n)
+  module _ (k : HopOn) (same : (k.lower).router ≡ (h.upper).router) (above : IsNextHop (Star rp) g (pair_on k) n)
       (stands : Stands (number_of k.lan) k.lower n) (takes : TakesIn g src h k n) where
     here : station_at n (k.lower).router ≡ Some takes.station
     here = ap (station_at n) same ∙ takes.there
 
-    path : IsOver (rp_route (above.below).state g) (hop_at (k.lower).iface (k.upper).address)
-    path = next_path (Star rp) g (above.below).state (hop_at (k.lower).iface (k.upper).address) (above.goes_up).next
-
     rpf : is_rpf_interface_rp (above.below).state g (k.lower).iface ≡ true
-    unfolding rpf_interface_rp
-    rpf =
-        ap (λ (o : Option Path). same_option (option_map (λ (p : Path). p.iface.number) o) (Some (k.lower).iface)) (path).is
-        ∙ eq-eqb ((path).path.iface.number) (k.lower).iface (path).over
+    rpf = on_tree_so rp g (above.below).state (hop_at (k.lower).iface (k.upper).address) (above.goes_over).rpf
 
     on_tree : IsOnTree g src (k.lower).iface (pair_on h) n
     on_tree = record {
@@ -76,18 +69,18 @@ module _ (g src rp d late bound limit : ℕ) (started : ℕ → ℕ) (t : Traffi
   Hop h = HopStands (Star rp) g limit started lans n ms h
 
   abbrev Routed : HopOn → Network → Type 0
-  Routed h x = AreThere (Star rp) g (pair_on h) x × IsUnlost (Star rp) g (pair_on h) x
+  Routed h x = IsNextHop (Star rp) g (pair_on h) x × IsUnlost (Star rp) g (pair_on h) x
 
   routed : (h : HopOn) → Hop h → PastIt (Routed h)
   routed h q =
-      both_past started limit (AreThere (Star rp) g (pair_on h)) (IsUnlost (Star rp) g (pair_on h)) (Routed h) (λ x a b. (a, b)) ms n q.there q.unlost
+      both_past started limit (IsNextHop (Star rp) g (pair_on h)) (IsUnlost (Star rp) g (pair_on h)) (Routed h) (λ x a b. (a, b)) ms n q.there q.unlost
 
   abbrev Above : HopOn → Network → Type 0
-  Above k x = AreThere (Star rp) g (pair_on k) x × Stands (number_of k.lan) k.lower x
+  Above k x = IsNextHop (Star rp) g (pair_on k) x × Stands (number_of k.lan) k.lower x
 
   above_past : (k : HopOn) → Hop k → PastIt (Above k)
   above_past k q =
-      both_past started limit (AreThere (Star rp) g (pair_on k)) (Stands (number_of k.lan) k.lower) (Above k) (λ x a b. (a, b)) ms n q.there
+      both_past started limit (IsNextHop (Star rp) g (pair_on k)) (Stands (number_of k.lan) k.lower) (Above k) (λ x a b. (a, b)) ms n q.there
       (throughout_past started limit (Stands (number_of k.lan) k.lower) ms n
       (((one_lan (LanIsQuiet d late bound started t came n ms) lans k.lan quiet q.among).meet).stand k.lower (q.on).lower))
 
@@ -129,7 +122,7 @@ module _ (g src rp d late lag bound limit : ℕ) (started : ℕ → ℕ) (t : Tr
       none_besides g src rp d late bound limit started t came plan.lans n ms q.lans h hs f r addresses stand p.self p.above held tree p.passes alone
 
 pub every_want_is_served_once : EveryWantIsServedOnce
-every_want_is_served_once g rp d late lag bound limit started t came plan routing n ms r k q lead unlost all is wants h hs same = record {
+every_want_is_served_once g rp d late lag bound limit started t came plan routing n ms r k q lead chosen all is wants h hs same = record {
   served = λ src f p. once g src rp d late lag bound limit started t came plan n ms r h hs f q all.addresses stand (its).held p;
   only = λ src f p. nothing_else g src rp d late lag bound limit started t came plan n ms r h hs f q all.addresses stand (its).held p;
 }
@@ -138,7 +131,7 @@ every_want_is_served_once g rp d late lag bound limit started t came plan routin
     its =
         subst (λ (l : List HopOn). AreJoined (Star rp) g bound limit started plan.lans n ms r l) same
         (are_joined (Star rp) g d late lag bound limit started t came plan.lans routing n ms r k
-        (record { few = q.few; meet = all_meet d late bound started t came n ms plan.lans q.lans; lead = lead; unlost = unlost }) all q.together is wants)
+        (record { few = q.few; meet = all_meet d late bound started t came n ms plan.lans q.lans; lead = lead; chosen = chosen }) all q.together is wants)
 
     no_sooner : (b : ℕ) → bound + 3 * lag + d ≤ wants.first → wants.first + b ≤ limit → bound ≤ limit
     no_sooner b e f = omega (arith, e, f)

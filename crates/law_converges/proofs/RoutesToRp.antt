@@ -1,11 +1,11 @@
 -- Where the routes lead up without a loop there is a way, by induction on the distance; it comes to be joined as any way does.
-use Rattle.std.{proofs.{Common.{Bool, List, None, Option, Some, [], ap, arith, cond, false, inl, inr, length, map, nat_lt, refl, subst, suc, sym, true, zero, ℕ, ◌*◌, ◌+◌, ◌-◌, ◌<◌, ◌==◌, ◌∙◌, ◌∷◌, ◌≡◌, ◌≤◌, ◌⊎◌}, lemmas.{Bool.Decides.nat_tests, List.length-map}}, specs.{List.AllByRecursion, Option.option_map_or, Prelude.slice_get}}
+use Rattle.std.{proofs.{Common.{Bool, List, None, Option, Some, [], ap, arith, cond, false, inl, inr, length, map, nat_lt, subst, suc, sym, true, zero, ℕ, ◌*◌, ◌+◌, ◌-◌, ◌<◌, ◌==◌, ◌∙◌, ◌∷◌, ◌≡◌, ◌≤◌, ◌⊎◌}, lemmas.{Bool.Decides.nat_tests, List.length-map}}, specs.{List.AllByRecursion, Option.option_map_or, Prelude.slice_get}}
 use Rattle.pim_ip.{specs.Ipv4.is_unicast}
 use Rattle.pim_types.{specs.{Keys.{iface_key, neighbour_key}, declared.{config.InterfaceConfig.InterfaceConfig, fact.{InterfaceRow.InterfaceRow, Key.Key, NeighbourRow.NeighbourRow}, path.{Hop.Hop, Path.Path}, timer.TimerKind.TimerKind}}}
 use Rattle.pim_model.{specs.{Neighbours.{is_neighbour, nbr, nbr_among}, Network.{Move, Network, Station, moved, station_at}, State.{State, is_own, my_address}, Tables.{Table, has_row, hop_at}}}
 use Rattle.law_settled.{proofs.{FineStates.Runs, ListLaws.each_more, Parts.{end_of, is_sound, part_of}, ShownEnds.{rows_run, shown_is_later}, TableLaws.row_of_each}, specs.Ready.IsSettled}
-use Rattle.law_streams.{proofs.{Adjacent.neighbours_come_to_be_known, Climbs.swapped, Firings.goes_so, Pairs.{ready_then, same_station}}, specs.{Adjacent.{Adjacent, IsKnown, IsKnownAfter, Sends, most_late_hello}, InTimeJoins.{Always, AreThere, IsBy, IsHeld, IsJoin, IsReady, IsRp, IsUnlost, Join, Listens, Pair, is_lost_at, most_late, most_late_shared, time_at, way_to}, Joins.Hears, Shared.IsAbove}}
-use Rattle.law_converges.{proofs.{CarriedJoins.in_time_past, CarriedLinks.hellos_in_time, CarriedNetwork.one_lan, CarriedWays.{HopStands, HopsStand}, JoinedWays.{AreHopsPast, IsHopPast, rest}, LinkDr.{always_more, sends_to}, Past.{both_past, each_past, from_then_on, later_past, same_past, throughout_past}, Settles.hops_past}, specs.{Carried.{Arrivals, EachMove, Traffic}, CarriedLinks.HearsJoins, CarriedNetwork.{AreOn, HopOn, IsOneLan, Lan, LanIsQuiet, number_of}, CarriedWays.pair_on, JoinedWays.{AreHeldPast, AreTogether, a_hop}, LinkDr.{GreetsBy, IsOne, Member, Stands, between}, Past.{ArePast, HoldsPast, HoldsPastOn}, RoutesToRp.{AllCanJoin, AreRouted, AreRpf, CanJoin, EveryWantIsHeldToRp, IsAnother, IsRouted, IsRpf, JoinIsOfLan, LanMeets, LeadsUp, NoneLost, RoutesLeadToRp, Routing, WantsFrom, heard_by, hops_after, hops_up}, Settles.routers}}
+use Rattle.law_streams.{proofs.{Adjacent.neighbours_come_to_be_known, Climbs.swapped, Firings.goes_so, Pairs.{ready_then, same_station}}, specs.{Adjacent.{Adjacent, IsKnown, IsKnownAfter, Sends, most_late_hello}, InTimeJoins.{Always, IsBy, IsHeld, IsJoin, IsReady, IsRp, IsUnlost, Join, Listens, Pair, most_late, most_late_shared, rpf_of, time_at}, Joins.Hears, Shared.IsAbove}}
+use Rattle.law_converges.{proofs.{CarriedJoins.in_time_past, CarriedLinks.hellos_in_time, CarriedNetwork.one_lan, CarriedWays.{HopStands, HopsStand}, JoinedWays.{AreHopsPast, IsHopPast, rest}, LinkDr.{always_more, sends_to}, Past.{both_past, each_past, from_then_on, later_past, same_past, throughout_past}, RpfStays.rpf_by_assert, Settles.hops_past}, specs.{Carried.{Arrivals, EachMove, Traffic}, CarriedLinks.HearsJoins, CarriedNetwork.{AreOn, HopOn, IsOneLan, Lan, LanIsQuiet, number_of}, CarriedWays.pair_on, JoinedWays.{AreHeldPast, AreTogether, a_hop}, LinkDr.{GreetsBy, IsOne, Member, Stands, between}, Past.{ArePast, HoldsPast, HoldsPastOn}, RpfJoins.IsNextHop, RoutesToRp.{AllCanJoin, AreRouted, AreRpf, ByAssert, ByRoute, CanJoin, Chooses, EveryWantIsHeldToRp, IsAnother, IsChosen, IsRouted, IsRpf, JoinIsOfLan, LanMeets, LeadsUp, RoutesLeadToRp, Routing, WantsFrom, heard_by, hops_after, hops_up}, Settles.routers}}
 
 pub both_always : (P Q R : Network → Type 0) → ((n : Network) → P n → Q n → R n) → (ms : List Move) (n : Network) → Always P n ms → Always Q n ms
     → Always R n ms
@@ -71,30 +71,6 @@ over_path rows p i a over to there = ap (λ (b : Bool). cond b (Some (record { i
     made : Some (record { iface = p.iface; address = p.next_hop }) ≡ Some (hop_at i a)
     made = grind (arith, over, to)
 
--- the route by which a neighbour is the next hop
-pub record IsOver (o : Option Path) (hop : Hop) : Type 0 where
-  pub path : Path
-  pub is : o ≡ Some path
-  pub over : path.iface.number ≡ hop.iface.number
-  pub to : path.next_hop.bits ≡ hop.address.bits
-
-route_of : (rows : Table NeighbourRow) (o : Option Path) (hop : Hop) → nbr_among rows o ≡ Some hop → IsOver o hop
-unfolding nbr_among
-route_of rows None hop e = cc e
-route_of rows (Some p) hop e = go (has_row rows (neighbour_key p.iface.number p.next_hop.bits)) e
-  where
-    made : Some (record { iface = p.iface; address = p.next_hop }) ≡ Some hop → IsOver (Some p) hop
-    made f = record { path = p; is = refl; over = grind (arith, f); to = grind (arith, f) }
-
-    go : (b : Bool) → cond b (Some (record { iface = p.iface; address = p.next_hop })) None ≡ Some hop → IsOver (Some p) hop
-    go true f = made f
-    go false f = cc f
-
--- the route over which a router has its next hop
-pub next_path : (x : Join) (g : ℕ) (s : State) (hop : Hop) → nbr s (way_to x s g) ≡ Some hop → IsOver (way_to x s g) hop
-unfolding nbr
-next_path x g s hop e = route_of s.neighbours (way_to x s g) hop e
-
 -- ---- two routers of a LAN
 
 module _ (x : Join) (g : ℕ) (h : HopOn) (n : Network) where
@@ -111,28 +87,38 @@ module _ (x : Join) (g : ℕ) (h : HopOn) (n : Network) where
 
   module _ (f : IsRouted x g h n) (low : Stands (number_of h.lan) h.lower n) (up : Stands (number_of h.lan) h.upper n)
       (knows : IsKnown (between (number_of h.lan) h.upper h.lower) n) (known : IsKnown (between (number_of h.lan) h.lower h.upper) n)
-      (none : NoneLost x g h n) where
+      (chosen : IsChosen x g h n) where
     abbrev below_state : State
     below_state = (f.below).state
+
+    abbrev its_hop : Hop
+    its_hop = hop_at (h.lower).iface (h.upper).address
 
     is_there : is_neighbour below_state (h.lower).iface (h.upper).address ≡ true
     is_there = subst (λ (z : Station). is_neighbour z.state (h.lower).iface (h.upper).address ≡ true) (same_station knows.there f.below_is) knows.known
 
-    next : nbr below_state (way_to x below_state g) ≡ Some (hop_at (h.lower).iface (h.upper).address)
-    unfolding nbr
-    next =
-        ap (nbr_among (below_state).neighbours) f.route
-        ∙ over_path (below_state).neighbours f.path (h.lower).iface (h.upper).address f.over f.to is_there
+    same_path : (p q : Path) → Some p ≡ Some q → p ≡ q
+    same_path p q e = cc e
 
-    there_now : AreThere x g (pair_on h) n
+    -- whom it chooses is RPF'
+    chosen_rpf : Chooses x g h below_state → rpf_of x below_state g ≡ Some its_hop
+    unfolding nbr
+    chosen_rpf (ByRoute p way to unlost) =
+        goes_so x below_state g its_hop
+        (ap (nbr_among (below_state).neighbours) way
+        ∙ over_path (below_state).neighbours p (h.lower).iface (h.upper).address
+        (ap (λ (q : Path). q.iface.number) (same_path p f.path (sym way ∙ f.route)) ∙ f.over) to is_there) unlost
+    chosen_rpf (ByAssert r found lost to) =
+        rpf_by_assert x g below_state f.path r (h.lower).iface f.route f.over found lost ∙ ap (λ (a : ℕ). Some (hop_at (h.lower).iface a)) to
+
+    there_now : IsNextHop x g (pair_on h) n
     unfolding above_now
     there_now = record {
       below = f.below;
       below_is = f.below_is;
-      goes_up = record {
+      goes_over = record {
         rp_known = f.rp_below;
-        next = next;
-        unlost = subst (λ (z : Station). is_lost_at x z.state g (h.lower).iface ≡ false) (same_station none.below_is f.below_is) none.unlost_below;
+        rpf = chosen_rpf (subst (λ (z : Station). Chooses x g h z.state) (same_station chosen.below_is f.below_is) chosen.chooses);
         own = subst (λ (z : Station). my_address z.state (h.lower).iface ≡ (h.lower).address) (same_station (low.sends).there f.below_is)
             (low.sends).own;
         linked = subst (λ (z : Station). slice_get z.links (h.lower).iface ≡ Some (number_of h.lan)) (same_station (low.sends).there f.below_is)
@@ -150,16 +136,16 @@ module _ (x : Join) (g : ℕ) (h : HopOn) (n : Network) where
     }
 
 -- the next hop is RPF'
-rpf_now : (x : Join) (g : ℕ) (h : HopOn) (n : Network) → AreThere x g (pair_on h) n → IsRpf x g h n
+rpf_now : (x : Join) (g : ℕ) (h : HopOn) (n : Network) → IsNextHop x g (pair_on h) n → IsRpf x g h n
 rpf_now x g h n f = record {
   station = f.below;
   there = f.below_is;
-  rpf = goes_so x (f.below).state g (hop_at (h.lower).iface (h.upper).address) (f.goes_up).next (f.goes_up).unlost;
+  rpf = (f.goes_over).rpf;
 }
 
 -- ---- from a bound on
 
-too_late : (t from bound : ℕ) → t ≤ from → from ≤ bound → bound < t → ⊥
+pub too_late : (t from bound : ℕ) → t ≤ from → from ≤ bound → bound < t → ⊥
 too_late t from bound e f h = omega (arith, e, f, h)
 
 -- who comes to be known is, past the bound
@@ -227,7 +213,7 @@ module _ (x : Join) (g d late bound : ℕ) (started : ℕ → ℕ) (t : Traffic)
   -- ---- a next hop
 
   module _ (h : HopOn) (among : IsOneLan lans h.lan) (on : AreOn h.lan h.lower h.upper) (routed : Always (IsRouted x g h) n ms)
-      (unlost : PastIt (NoneLost x g h)) where
+      (chosen : PastIt (IsChosen x g h)) where
     abbrev link : ℕ
     link = number_of h.lan
 
@@ -241,13 +227,13 @@ module _ (x : Join) (g d late bound : ℕ) (started : ℕ → ℕ) (t : Traffic)
     Know n = IsKnown (between link h.upper h.lower) n × IsKnown (between link h.lower h.upper) n
 
     abbrev Routed : Network → Type 0
-    Routed n = IsRouted x g h n × NoneLost x g h n
+    Routed n = IsRouted x g h n × IsChosen x g h n
 
-    there : PastIt (AreThere x g (pair_on h))
+    there : PastIt (IsNextHop x g (pair_on h))
     there =
-        both Routed (λ n. Stand n × Know n) (AreThere x g (pair_on h))
+        both Routed (λ n. Stand n × Know n) (IsNextHop x g (pair_on h))
         (λ n f s. there_now x g h n f.0 (s.0).0 (s.0).1 (s.1).0 (s.1).1 f.1)
-        (both (IsRouted x g h) (NoneLost x g h) Routed (λ n a b. (a, b)) (throughout_past started bound (IsRouted x g h) ms n routed) unlost)
+        (both (IsRouted x g h) (IsChosen x g h) Routed (λ n a b. (a, b)) (throughout_past started bound (IsRouted x g h) ms n routed) chosen)
         (both Stand Know (λ n. Stand n × Know n) (λ n s k. (s, k))
         (both (Stands link h.lower) (Stands link h.upper) Stand (λ n a b. (a, b))
         (throughout_past started bound (Stands link h.lower) ms n ((lan).stand h.lower on.lower))
@@ -261,12 +247,12 @@ module _ (x : Join) (g d late bound : ℕ) (started : ℕ → ℕ) (t : Traffic)
       among = among;
       on = on;
       there = there;
-      unlost = same_past started bound (NoneLost x g h) (IsUnlost x g (pair_on h))
-          (λ n f. record { station = f.above; there = f.above_is; unlost = f.unlost_above }) ms n unlost;
+      unlost = same_past started bound (IsChosen x g h) (IsUnlost x g (pair_on h))
+          (λ n f. record { station = f.above; there = f.above_is; unlost = f.unlost_above }) ms n chosen;
     }
 
     rpf : PastIt (IsRpf x g h)
-    rpf = same_past started bound (AreThere x g (pair_on h)) (IsRpf x g h) (rpf_now x g h) ms n there
+    rpf = same_past started bound (IsNextHop x g (pair_on h)) (IsRpf x g h) (rpf_now x g h) ms n there
 
     -- ---- its Joins come in time
 
@@ -313,7 +299,7 @@ module _ (x : Join) (g d late bound : ℕ) (started : ℕ → ℕ) (t : Traffic)
       lower_ready = (lan).ready h.lower on.lower;
       upper_ready = (lan).ready h.upper on.upper;
       near = can.near;
-      there = later_past started (heard_by d lag bound) bound (no_sooner lag) (AreThere x g (pair_on h)) ms n there;
+      there = later_past started (heard_by d lag bound) bound (no_sooner lag) (IsNextHop x g (pair_on h)) ms n there;
       in_time = in_time_past x g d late started t link (routers (h.lan).link) (length n.frames) h.lower h.upper on.lower on.upper on.apart
           (fewer d q.few) lag bound addresses (fewer_still d q.few) ms n came (lan).carried ((lan).ready h.lower on.lower)
           ((lan).ready h.upper on.upper)
@@ -354,11 +340,11 @@ module _ (x : Join) (g d late bound : ℕ) (started : ℕ → ℕ) (t : Traffic)
       → Found ((routing.next r).upper).router f.rest hops → Found r (suc k) (routing.next r ∷ hops)
   one_more r k is f hops further = record {
     few = fits (length hops) f.rest further.few f.nearer;
-    way = (f.from, f.among, f.on, rpf (routing.next r) f.among f.on f.routed (q.unlost r k is), further.way);
-    stand = (f.from, stands (routing.next r) f.among f.on f.routed (q.unlost r k is), further.stand);
+    way = (f.from, f.among, f.on, rpf (routing.next r) f.among f.on f.routed (q.chosen r k is), further.way);
+    stand = (f.from, stands (routing.next r) f.among f.on f.routed (q.chosen r k is), further.stand);
     joined = λ lag together all. (
       f.from,
-      joined (routing.next r) f.among f.on f.routed (q.unlost r k is) lag all.addresses together (all.join r k is),
+      joined (routing.next r) f.among f.on f.routed (q.chosen r k is) lag all.addresses together (all.join r k is),
       further.joined lag together all,
     );
   }

@@ -1,9 +1,9 @@
 -- The premises, computed by their tests.
-use Rattle.std.{proofs.Common.{List, Some, [], arith, inl, inr, lit≤, map, refl, suc, true, zero, ℕ, ◌≡◌, ◌≤◌}, specs.List.AllByRecursion}
+use Rattle.std.{proofs.Common.{Bool, List, Some, [], arith, inl, inr, lit≤, map, refl, suc, true, zero, ℕ, ◌&&◌, ◌≡◌, ◌≤◌}, specs.{Cmp.{first_so, second_so}, List.AllByRecursion}}
 use Rattle.pim_model.{specs.Network.{Move, Network, network_ran}}
-use Rattle.law_streams.{specs.{InTimeJoins.{Always, AreThere, IsHeld, IsUnlost, Wants}, Joins.join_packet}}
+use Rattle.law_streams.{specs.{InTimeJoins.{Always, IsHeld, IsUnlost, Wants}, Joins.join_packet}}
 use Rattle.pim_runs.{proofs.OnLiterals.machine_on_literals, specs.{Base.rp, InTime.started, ServedChain.asked_group}}
-use Rattle.law_converges.{proofs.{CarriedNetworkRun.{on_high, plan_is_quiet}, CarriedTests.{each_move_so, move_test}, CarriedWaysRun.plan_is_open, JoinTests.{first_test, first_wants, near_of, near_test, unlost_of, unlost_test}, KeepsTests.{joiners_so, joiners_test}, LinkDr.always_more, Past.{later_past, same_past, throughout_past}, RouteTests.{ends_at, ends_so, none_lost_so, routed_so}, RoutedWays.every_want_is_served_once, RoutesToRp.{all_meet, both_always, every_want_is_held_to_rp, routes_lead_to_rp}, Tested.{always_so, ends_past, past_so, past_test, run_test}}, specs.{Carried.EachMove, CarriedNetwork.{AreOn, HopIsQuiet, IsOneLan, JoinIsQuiet, JoinOver, LanIsQuiet, WayIsQuiet, joining_on}, CarriedNetworkRun.{before, bound, farther_joins, farther_on_high, high_lan, lag, limit, moves, nearer_joins, nearer_on_high, none_came, plan, rp_on_high, soon, source_there, star, traffic, way}, CarriedWays.{AreOnTree, pair_on}, CarriedWaysRun.{its_hop, to_host}, ComesOnce.Forwards, Past.HoldsPast, RoutedWays.{IsFree, PassesDown}, RoutesToRp.{AllCanJoin, AreRouted, CanJoin, EndsAt, IsRouted, JoinIsOfLan, LeadsUp, NoneLost, RoutesLead, WantsFrom, hops_up}, RoutesToRpRun.{FartherIsHeldToRp, NearerIsServedOnce, RoutesLeadOnPlan, farther_hop, hops_away, routing}, Settles.{Joining, routers}}}
+use Rattle.law_converges.{proofs.{CarriedNetworkRun.{on_high, plan_is_quiet}, CarriedTests.{each_move_so, move_test}, CarriedWaysRun.plan_is_open, JoinTests.{first_test, first_wants, near_of, near_test, unlost_of, unlost_test}, KeepsTests.{joiners_so, joiners_test}, LinkDr.always_more, Past.{later_past, same_past, throughout_past}, RouteTests.{by_route, by_route_so, ends_at, ends_so, named_so, routed_so}, RoutedWays.every_want_is_served_once, RoutesToRp.{all_meet, both_always, every_want_is_held_to_rp, routes_lead_to_rp}, Tested.{always_so, ends_past, past_so, past_test, run_test}}, specs.{Carried.EachMove, CarriedNetwork.{AreOn, HopIsQuiet, HopOn, IsOneLan, JoinIsQuiet, JoinOver, LanIsQuiet, WayIsQuiet, joining_on}, CarriedNetworkRun.{before, bound, farther_joins, farther_on_high, high_lan, lag, limit, moves, nearer_joins, nearer_on_high, none_came, plan, rp_on_high, soon, source_there, star, traffic, way}, CarriedWays.{AreOnTree, pair_on}, CarriedWaysRun.{its_hop, to_host}, ComesOnce.Forwards, Past.HoldsPast, RoutedWays.{IsFree, PassesDown}, RpfJoins.IsNextHop, RoutesToRp.{AllCanJoin, AreRouted, CanJoin, EndsAt, IsChosen, IsNamed, IsRouted, JoinIsOfLan, LeadsUp, RoutesLead, WantsFrom, hops_up}, RoutesToRpRun.{FartherIsHeldToRp, NearerIsServedOnce, RoutesLeadOnPlan, farther_hop, hops_away, routing}, Settles.{Joining, routers}}}
 
 -- ---- the routes
 
@@ -40,26 +40,47 @@ nearer_hop = ((((plan_is_quiet).ways).0).hops).1
 
 nearer_routed : Always (IsRouted star asked_group its_hop) before moves
 nearer_routed =
-    always_more (AreThere star asked_group (pair_on its_hop)) (IsRouted star asked_group its_hop) (routed_so star asked_group its_hop) moves before
+    always_more (IsNextHop star asked_group (pair_on its_hop)) (IsRouted star asked_group its_hop) (routed_so star asked_group its_hop) moves before
     (nearer_quiet).there
 
 farther_routed : Always (IsRouted star asked_group farther_hop) before moves
 farther_routed =
-    always_more (AreThere star asked_group (pair_on farther_hop)) (IsRouted star asked_group farther_hop) (routed_so star asked_group farther_hop)
+    always_more (IsNextHop star asked_group (pair_on farther_hop)) (IsRouted star asked_group farther_hop) (routed_so star asked_group farther_hop)
     moves before (farther_quiet).there
 
-nearer_none_lost : HoldsPast started bound (NoneLost star asked_group its_hop) before moves
-nearer_none_lost =
-    throughout_past started bound (NoneLost star asked_group its_hop) moves before
-    (both_always (AreThere star asked_group (pair_on its_hop)) (IsUnlost star asked_group (pair_on its_hop)) (NoneLost star asked_group its_hop)
-    (none_lost_so star asked_group its_hop) moves before (nearer_quiet).there (nearer_hop).unlost)
+-- both routes name the RP, and no assert is lost
+abbrev pub names_rp : Network → Bool
+names_rp n = by_route star asked_group its_hop n && by_route star asked_group farther_hop n
 
-farther_none_lost : HoldsPast started bound (NoneLost star asked_group farther_hop) before moves
-farther_none_lost =
-    throughout_past started bound (NoneLost star asked_group farther_hop) moves before
-    (both_always (AreThere star asked_group (pair_on farther_hop)) (IsUnlost star asked_group (pair_on farther_hop))
-    (NoneLost star asked_group farther_hop) (none_lost_so star asked_group farther_hop) moves before (farther_quiet).there
-    (unlost_of soon bound started farther_joining before moves farther_unlost))
+they_name : run_test names_rp (λ n m next ms. true) before moves ≡ true
+unfolding machine_on_literals join_packet
+they_name = refl
+
+pub names_nearer : (n : Network) → names_rp n ≡ true → by_route star asked_group its_hop n ≡ true
+names_nearer n e = first_so (by_route star asked_group its_hop n) (by_route star asked_group farther_hop n) e
+
+pub names_farther : (n : Network) → names_rp n ≡ true → by_route star asked_group farther_hop n ≡ true
+names_farther n e = second_so (by_route star asked_group its_hop n) (by_route star asked_group farther_hop n) e
+
+pub named_past : (h : HopOn) → ((n : Network) → names_rp n ≡ true → by_route star asked_group h n ≡ true)
+    → HoldsPast started bound (IsNamed star asked_group h) before moves
+named_past h part =
+    throughout_past started bound (IsNamed star asked_group h) moves before
+    (always_so names_rp (λ n m next ms. true) (IsNamed star asked_group h) (λ n e. named_so star asked_group h n (part n e)) moves before they_name)
+
+chosen_by : (h : HopOn) → ((n : Network) → names_rp n ≡ true → by_route star asked_group h n ≡ true)
+    → Always (IsUnlost star asked_group (pair_on h)) before moves → HoldsPast started bound (IsChosen star asked_group h) before moves
+chosen_by h part unlost =
+    throughout_past started bound (IsChosen star asked_group h) moves before
+    (both_always (λ n. by_route star asked_group h n ≡ true) (IsUnlost star asked_group (pair_on h)) (IsChosen star asked_group h)
+    (by_route_so star asked_group h) moves before
+    (always_so names_rp (λ n m next ms. true) (λ n. by_route star asked_group h n ≡ true) part moves before they_name) unlost)
+
+nearer_chosen : HoldsPast started bound (IsChosen star asked_group its_hop) before moves
+nearer_chosen = chosen_by its_hop names_nearer (nearer_hop).unlost
+
+farther_chosen : HoldsPast started bound (IsChosen star asked_group farther_hop) before moves
+farther_chosen = chosen_by farther_hop names_farther (unlost_of soon bound started farther_joining before moves farther_unlost)
 
 same_number : (a b : ℕ) → Some a ≡ Some b → a ≡ b
 same_number a b e = cc e
@@ -100,19 +121,11 @@ module _ (n : Network) (ms : List Move) where
   up_of a b f g (suc (suc zero)) k e = none_there k e
   up_of a b f g (suc (suc (suc r))) k e = cc e
 
-  join_of : CanJoin star asked_group traffic n ms its_hop → CanJoin star asked_group traffic n ms farther_hop → (r k : ℕ)
-      → hops_away r ≡ Some (suc k) → CanJoin star asked_group traffic n ms (routing.next r)
-  join_of f g zero k e = f
-  join_of f g (suc zero) k e = g
-  join_of f g (suc (suc zero)) k e = none_there k e
-  join_of f g (suc (suc (suc r))) k e = cc e
-
-  lost_of : HoldsPast started bound (NoneLost star asked_group its_hop) n ms → HoldsPast started bound (NoneLost star asked_group farther_hop) n ms
-      → (r k : ℕ) → hops_away r ≡ Some (suc k) → HoldsPast started bound (NoneLost star asked_group (routing.next r)) n ms
-  lost_of f g zero k e = f
-  lost_of f g (suc zero) k e = g
-  lost_of f g (suc (suc zero)) k e = none_there k e
-  lost_of f g (suc (suc (suc r))) k e = cc e
+pub each_of : (P : HopOn → Type 0) → P its_hop → P farther_hop → (r k : ℕ) → hops_away r ≡ Some (suc k) → P (routing.next r)
+each_of P f g zero k e = f
+each_of P f g (suc zero) k e = g
+each_of P f g (suc (suc zero)) k e = none_there k e
+each_of P f g (suc (suc (suc r))) k e = cc e
 
 rp_ends : Always (EndsAt star asked_group 2) before moves
 rp_ends = always_so (ends_at rp 2) (λ n m next ms. true) (EndsAt star asked_group 2) (ends_so rp asked_group 2) moves before rp_there
@@ -141,7 +154,7 @@ joiners_of j e =
 can_join : AllCanJoin star asked_group traffic routing before moves
 can_join = record {
   addresses = (nearer_quiet).addresses;
-  join = join_of before moves
+  join = each_of (CanJoin star asked_group traffic before moves)
       (record { near = (nearer_hop).near; keeps = (nearer_hop).keeps; joiners = joiners_of nearer_joins nearer_joiners })
       (record {
         near = near_of soon bound started farther_joining before farther_near;
@@ -151,7 +164,11 @@ can_join = record {
 }
 
 pub routes_lead_on_plan : RoutesLeadOnPlan
-routes_lead_on_plan = (lead, lost_of before moves nearer_none_lost farther_none_lost, can_join)
+routes_lead_on_plan = (
+  lead,
+  each_of (λ h. HoldsPast started bound (IsChosen star asked_group h) before moves) nearer_chosen farther_chosen,
+  can_join,
+)
 
 -- ---- so there is a way
 
@@ -164,7 +181,7 @@ are_routed = record {
   few = (plan_is_quiet).few;
   meet = all_meet soon soon bound started traffic none_came before moves plan.lans (plan_is_quiet).lans;
   lead = (routes_lead_on_plan).0;
-  unlost = (routes_lead_on_plan).1;
+  chosen = (routes_lead_on_plan).1;
 }
 
 -- of any moves, so that none is computed here

@@ -57,7 +57,7 @@ module _ (started : ℕ → ℕ) (bound : ℕ) where
           absurd (too_late (time_at started y.router st) bound (by st (here.sends).there) (past y.router st (here.sends).there))
       go past (inr known) = known
 
-  silent_past : (g src link : ℕ) (metric : AssertMetric) (x y : Member) (ms : List Move) (n : Network)
+  pub silent_past : (g src link : ℕ) (metric : AssertMetric) (x y : Member) (ms : List Move) (n : Network)
       → Always (IsOffTree g src metric (between link x y)) n ms → IsSilentAfter g src started (between link x y) bound n ms
       → HoldsPast started bound (IsSilent g src (between link x y)) n ms
   silent_past g src link metric x y [] n off f = tt
@@ -73,6 +73,17 @@ module _ (started : ℕ → ℕ) (bound : ℕ) where
           let st : Station = here.station in
           absurd (too_late (time_at started y.router st) bound (by st here.there) (past y.router st here.there))
       go past (inr silent) = silent
+
+  pub one_sender_past : (a : Contest) (ms : List Move) (n : Network)
+      → AllByRecursion (λ y. HoldsPast started bound (IsSilent a.group a.source (between a.link a.winner y)) n ms) a.losers
+      → HoldsPast started bound (λ n. HasOneSender n a) n ms
+  one_sender_past a ms n each =
+      same_past started bound (λ n. AllByRecursion (λ y. Silent y n) a.losers) (λ n. HasOneSender n a)
+      (λ n h. record { only = λ y is. one_of (λ y. Silent y n) a.losers y h is; once = λ e st at. never_twice st.state e }) ms n
+      (each_past started bound Silent a.losers n ms each)
+    where
+      Silent : Member → Network → Type 0
+      Silent y n = IsSilent a.group a.source (between a.link a.winner y) n
 
   held_past : (j : Joining) (ms : List Move) (n : Network)
       → AllHeldAfter j.join j.group started (j.pair ∷ []) bound n ms
@@ -148,15 +159,10 @@ module _ (started : ℕ → ℕ) (bound : ℕ) where
     -- ---- the assert of a link
 
     contest_settles : (a : Contest) → ContestIsQuiet d bound started n ms a → HoldsPast started bound (λ n. HasOneSender n a) n ms
-    contest_settles a f =
-        same_past started bound (λ n. AllByRecursion (λ y. Silent y n) a.losers) (λ n. HasOneSender n a)
-        (λ n h. record { only = λ y is. one_of (λ y. Silent y n) a.losers y h is; once = λ e st at. never_twice st.state e }) ms n
-        (each_past started bound Silent a.losers n ms (each_more _ _ one a.losers f.losers))
+    contest_settles a f = one_sender_past a ms n (each_more _ _ one a.losers f.losers)
       where
-        Silent : Member → Network → Type 0
-        Silent y n = IsSilent a.group a.source (between a.link a.winner y) n
-
-        one : (y : Member) → LoserIsQuiet d bound started n ms a (between a.link a.winner y) → HoldsPast started bound (Silent y) n ms
+        one : (y : Member) → LoserIsQuiet d bound started n ms a (between a.link a.winner y)
+            → HoldsPast started bound (IsSilent a.group a.source (between a.link a.winner y)) n ms
         one y h =
             silent_past a.group a.source a.link a.metric a.winner y ms n h.off
             (at_most_one_comes_to_send a.group a.source a.metric d bound started (between a.link a.winner y) n ms f.few h.comes h.by h.off)

@@ -3,7 +3,7 @@ use Rattle.std.{proofs.Common.{Bool, List, Some, [], ap, arith, false, inl, inr,
 use Rattle.pim_types.{specs.declared.{event.Event.Event, fact.{AssertMetric.AssertMetric, AssertRow.AssertRow, Key.Key}}}
 use Rattle.pim_model.{specs.{Network.{Deliver, Move, Network, Station, event_of, frame_at, moved, station_at}, Sets.is_winner, State.State, Step.step, Tables.row_at}}
 use Rattle.law_streams.{proofs.{Deliveries.IsNewOn, Pairs.{Steps, one_router, same_station}}, specs.{Adjacent.Adjacent, InTimeJoins.{IsBy, time_at}}}
-use Rattle.law_converges.{proofs.{Carried.{IsCarriedOn, carried_on, sent_comes}, LinkAsserts.loses_then, Prompt.assert_end, WinnerClock.{AssertLasts, each_event_assert}}, specs.{Carried.{Arrivals, EachMove, IsCarried, Traffic, arrived}, LinkAsserts.{CanGiveWay, HasLost, IsSayable, LosesTo, assert_packet, is_about, said}, LinkDr.{IsOne, Member, between}, LinkLosers.{loser_key, winner_key, winner_of}, TwoWinners.{BothWin, CanHear, HearsAssert, OneGoesBy, OneWinnerGoes}}}
+use Rattle.law_converges.{proofs.{Carried.{IsCarriedOn, carried_on, sent_comes}, LinkAsserts.{by_row, loses_then}, Prompt.assert_end, WinnerClock.{AssertLasts, each_event_assert}}, specs.{Carried.{Arrivals, EachMove, IsCarried, Traffic, arrived}, LinkAsserts.{CanGiveWay, HasLost, IsSayable, LosesTo, assert_packet, is_about, said}, LinkDr.{IsOne, Member, between}, LinkLosers.{loser_key, winner_key, winner_of}, TwoWinners.{BothWin, CanHear, HearsAssert, OneGoesBy, OneWinnerGoes}}}
 
 -- who has lost isn't the winner
 no_winner : (k : Key) (theirs : AssertMetric) (end : ℕ) (s : State) (row : AssertRow) → HasLost k theirs end s → row_at s.asserts k ≡ Some row
@@ -49,7 +49,7 @@ module _ (g src : ℕ) (metric : AssertMetric) (d late bound : ℕ) (started : �
       found = subst (λ (z : Station). row_at (z.state).asserts (loser_key g src metric c) ≡ Some both.row) (same_station both.there h.there) both.found
 
       can : CanGiveWay g src metric c h.station
-      can = record { hears = h.hears; linked = h.linked; room = h.room; row = both.row; found = found; gives = either _ _ both.worse }
+      can = record { hears = h.hears; linked = h.linked; room = h.room; gives = by_row _ _ _ both.row found (either _ _ both.worse) }
 
       lost : LosesTo g src metric c h.station (moved n m).1
       lost =

@@ -7,7 +7,7 @@ use Rattle.law_settled.{proofs.{FineStates.Runs, ListLaws.{by_cond, each_filter}
 use Rattle.law_streams.{proofs.{EndSoon.no_later, LiesUnder.row_fires, Pairs.{Steps, one_router, ready_then, same_station}, Rows.changed_good, Walks.time_walks}, specs.{Copies.happens, InTimeJoins.IsReady}}
 use Rattle.law_states.{proofs.{AssertEnds.{Read, here_read, joined_read, pending_read, query_read, read, register_read, report_read, seen_read, updated_read, watched_read}, Bounds.each_replaced}}
 use Rattle.law_hosts.{proofs.Done.after_event}
-use Rattle.law_converges.{proofs.{AssertRows.{assert_by_row, assert_of, received_by}, LinkRptWaits.kept_unpruned}, specs.{Carried.EachMove, LinkAsserts.gives_way, LinkDr.Member, LinkLosers.reads_assert, LinkRpt.is_pruned_by, Past.{ArePast, HoldsPast}, Unheard.{AreNone, HearsNoBetter, HearsNoPrune, LostAssertEnds, PruneEnds, hears_better, is_gone, is_over, loses_to}}}
+use Rattle.law_converges.{proofs.{AssertRows.{assert_by_row, assert_of, received_by}, LinkRptWaits.kept_unpruned}, specs.{Carried.EachMove, LinkAsserts.{gives_way, loses_to}, LinkDr.Member, LinkLosers.reads_assert, LinkRpt.is_pruned_by, Past.{ArePast, HoldsPast}, Unheard.{AreNone, HearsNoBetter, HearsNoPrune, LostAssertEnds, PruneEnds, hears_better, is_gone, is_over}}}
 
 -- ---- rows of a key
 

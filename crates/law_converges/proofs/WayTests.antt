@@ -6,8 +6,8 @@ use Rattle.pim_types.{specs.{Keys.star_key, declared.{event.Event.Event, fact.Do
 use Rattle.pim_model.{specs.{Full.source_is_full, Network.{At, Deliver, DeliverUnicast, Move, Network, Sent, Station, event_of, moved, station_at}, Sets.{assert_source, assert_star, is_loser, prunes, spt_bit}, State.{iface_count, is_own, is_up}, Tables.{row_at, same_option}, Unicast.{is_rpf_interface, is_rpf_interface_rp}, Writing.on_link}}
 use Rattle.law_settled.{proofs.ReadPackets.packet_is}
 use Rattle.law_events.{specs.Rest.IsAtRest}
-use Rattle.law_streams.{specs.{Copies.copies_at, InTimeJoins.{IsReady, Pair, time_at}, Passing.{AreMatched, GoesOut, IsJoinedThere, IsWanted, Passes, Receiver, Tree, is_asked}}, proofs.{Deliveries.{IsNewOn, IsStepped, is_stepped}, Forwards.from_copies, Pairs.same_station}}
-use Rattle.law_converges.{specs.{CarriedWays.IsClear, ComesOnce.{Forwarder, Forwards, HasOneOn, IsAlone, IsFromAbove, IsOfSource, Root, SendsDown, TakesFromAbove}, Past.{ArePast, HoldsPast}}, proofs.{TakesOver.moved_so, Tested.{Found, after_so, each_found, each_new, else_so, found, le_so, lt_so, moves_so, off_so, or_else, run_test, same_so, then}}}
+use Rattle.law_streams.{specs.{Copies.copies_at, InTimeJoins.{IsReady, Pair, time_at}, Passing.{AreMatched, GoesOut, IsJoinedThere, IsWanted, Receiver, Tree, is_asked}}, proofs.{Deliveries.{IsNewOn, IsStepped, is_stepped}, Forwards.from_copies, Pairs.same_station}}
+use Rattle.law_converges.{specs.{CarriedWays.IsClear, ComesOnce.{Forwarder, Forwards, HasOneOn, IsAlone, IsFromAbove, IsOfSource, Root, SendsDown, SendsOn, Stream, TakesFromAbove}, Past.{ArePast, HoldsPast}}, proofs.{TakesOver.moved_so, Tested.{Found, after_so, each_found, each_new, else_so, found, le_so, lt_so, moves_so, off_so, or_else, run_test, same_so, then}}}
 
 -- ---- past a bound
 
@@ -121,7 +121,7 @@ module _ (g src : ℕ) where
         wanted = wanted_so receiver st down wanted;
       })))
 
-  module _ (f : Forwarder) where
+  module _ (f : Forwarder) (receiver : Receiver) where
     -- its interfaces are on these links
     abbrev linked_test : Station → Bool
     linked_test st = same_option (slice_get st.links (f.self).iface) (Some f.above) && one_on f.down f.below st
@@ -131,29 +131,29 @@ module _ (g src : ℕ) where
         nat_lt (f.self).iface (iface_count st.state) && (is_up st.state (f.self).iface && (not (is_own st.state src)
         && (is_rpf_interface_rp st.state g (f.self).iface
         && (not (spt_bit st.state g src && not (is_rpf_interface st.state src (f.self).iface))
-        && (is_matched f.receiver && (out_test f.receiver f.down st && (not (source_is_full st.state g src)
+        && (is_matched receiver && (out_test receiver f.down st && (not (source_is_full st.state g src)
         && (not (f.down == (f.self).iface) && linked_test st))))))))
 
     abbrev pub forwards_at : Network → Bool
     forwards_at n = option_map_or forwards_station (station_at n (f.self).router) false
 
-    pub forwards_so : f.tree ≡ Tree.Shared → (n : Network) → IsReady (f.self).router n → forwards_at n ≡ true → Forwards g src f n
-    forwards_so shared n ready e =
+    pub forwards_so : (n : Network) → IsReady (f.self).router n → forwards_at n ≡ true → Forwards g src f n
+    forwards_so n ready e =
         let i : Found Station forwards_station (station_at n (f.self).router) = found Station forwards_station (station_at n (f.self).router) e in
         then i.passes (λ up e. then e (λ is_up e. then e (λ foreign e. then e (λ on e. then e (λ too e. then e (λ matched e. then e (λ out e. then e (λ room e.
         then e (λ apart e. then e (λ linked one. record {
           station = i.it;
           there = i.is;
-          passes = subst (λ (t : Tree). Passes t f.receiver (i.it).state g src (f.self).iface f.down) (sym shared) (record {
+          passes = Stream Tree.Shared receiver (record {
             settled = (subst (λ (z : Station). IsAtRest z.state) (same_station ready.there i.is) ready.at_rest).settled;
-            matched = matched_so f.receiver matched;
+            matched = matched_so receiver matched;
             comes_in = record {
               configured = lt_so _ _ up;
               is_up = is_up;
               foreign = off_so _ foreign;
               on = record { on_tree = on; source_too = off_so _ too };
             };
-            goes_out = out_so f.receiver f.down i.it out;
+            goes_out = out_so receiver f.down i.it out;
             room = off_so _ room;
             on = off_so _ apart;
           });
@@ -170,16 +170,16 @@ module _ (g src : ℕ) where
     abbrev pub sends_at : Network → Bool
     sends_at n = option_map_or sends_station (station_at n root.router) false
 
-    pub sends_so : (n : Network) → IsReady root.router n → sends_at n ≡ true → SendsDown g src root n
-    sends_so n ready e =
+    pub sends_so : root.tree ≡ Tree.Shared → (n : Network) → IsReady root.router n → sends_at n ≡ true → SendsDown g src root n
+    sends_so shared n ready e =
         let i : Found Station sends_station (station_at n root.router) = found Station sends_station (station_at n root.router) e in
         then i.passes (λ out one. record {
           station = i.it;
           there = i.is;
-          sends = record {
+          sends = subst (λ (t : Tree). SendsOn t (i.it).state g src root.down) (sym shared) (record {
             settled = (subst (λ (z : Station). IsAtRest z.state) (same_station ready.there i.is) ready.at_rest).settled;
             goes_out = out_so Receiver.Router root.down i.it out;
-          };
+          });
           below = one_on_so root.down root.below i.it one;
         })
 

@@ -4,7 +4,7 @@ use Rattle.std.{proofs.{Common.{◌≡◌, ◌∙◌, ℕ, ◌+◌, ◌-◌, ◌
 use Rattle.pim_types.{specs.{Keys.{group_in, iface_in, is_on, is_star, same_key, source_in, source_key, star_key}, declared.{config.IfaceId.IfaceId, event.Event.Event, fact.{AssertMetric.AssertMetric, AssertRow.AssertRow, InterfaceRow.InterfaceRow, Key.Key}, outcome.Emission.Emission, timer.TimerKind.TimerKind}}, proofs.Keys.{equal_keys}}
 use Rattle.pim_ip.{specs.declared.addr.Addr.Addr}
 use Rattle.pim_wire.{specs.declared.assert.Assert.Assert as AssertMessage}
-use Rattle.pim_model.{specs.{declared.accepted.Accepted.Accepted, Asserts.{assert_as_loser, assert_as_winner, assert_at, assert_due, assert_forgotten, assert_message, assert_received, asserted_metric, loses, theirs_of, wins, wins_again, without_spt_bit}, Clearing.clear, Downstream.{is_named, joined_keys}, Firing.{fire_all, fire_instant, fire_once, fire_row, fired, settled}, Messages.Message, Reach.own_firing, Judging.{Judged, judged}, Registers.settle_registers, Sets.{is_loser, is_winner, route_metric, rpt_metric, spt_metric}, State.{Addressing, State, address_among, is_own, my_address}, Step.{Answered, advanced, change, concluded, done, iface_down, step, taken, taken_unless_full}, Tables.{Table, change_row, changed_entry, drop_at, drop_where, has_row, row_at}, Timers.{Ending, next_due, timers}, Unicast.{route, rp_of, rp_route}, Writing.on_link}}
+use Rattle.pim_model.{specs.{declared.accepted.Accepted.Accepted, Asserts.{assert_as_loser, assert_as_winner, assert_at, assert_due, assert_forgotten, assert_message, assert_received, asserted_metric, loses, theirs_of, wins_again, without_spt_bit}, Clearing.clear, Downstream.{is_named, joined_keys}, Firing.{fire_all, fire_instant, fire_once, fire_row, fired, settled}, Messages.Message, Reach.own_firing, Judging.{Judged, judged}, Registers.settle_registers, Sets.{is_loser, is_winner, route_metric, rpt_metric, spt_metric}, State.{Addressing, State, address_among, is_own, my_address}, Step.{Answered, advanced, change, concluded, done, iface_down, step, taken, taken_unless_full}, Tables.{Table, change_row, changed_entry, drop_at, drop_where, has_row, row_at}, Timers.{Ending, next_due, timers}, Unicast.{route, rp_of, rp_route}, Writing.on_link}}
 use Rattle.law_settled.{proofs.{FiringLaws.next_is_due, RowLaws.{has_row_dropped, row_put}, SettlingLaws.kept_by_clearing, UnchangedLaws.full_or_taken, Unsettled.{Unsettled, Untold, cleared_in_the_end, settling_leaves}}}
 use Rattle.law_events.{specs.Scopes.{reads, scope}, proofs.{Configured.{Ground, firing_ground, firing_ups, ground, ups}, SharedMacros.{route_cut, route_local, rp_of_local, rp_route_local}, UntoldKeys.same_by_scope}}
 use Rattle.law_streams.{specs.Joins.is_time, proofs.{Lasting.{Whole, assert_whole}, Leaves.{rest_agrees, untouched}, Turns.to_the_end}}
@@ -51,7 +51,7 @@ module _ (k : Key) where
 
 -- ---- rows
 
-change_is : (k : Key) (r : AssertRow) (rows : Table AssertRow) → has_row rows k ≡ true → row_at (change_row (λ (old : AssertRow). Some r) k rows) k ≡ Some r
+pub change_is : (k : Key) (r : AssertRow) (rows : Table AssertRow) → has_row rows k ≡ true → row_at (change_row (λ (old : AssertRow). Some r) k rows) k ≡ Some r
 unfolding has_row row_at change_row changed_entry
 change_is k r [] e = cc e
 change_is k r (x ∷ rows) e = grind (arith, change_is k r rows)

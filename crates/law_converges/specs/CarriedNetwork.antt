@@ -3,8 +3,8 @@
 use Rattle.std.{specs.{List.{AllByRecursion, flat_map}, Prelude.{List, Some, [], false, length, map, ℕ, ◌*◌, ◌+◌, ◌-◌, ◌<◌, ◌==◌, ◌∷◌, ◌≡◌, ◌≤◌, ◌⊎◌}}}
 use Rattle.pim_types.{specs.declared.fact.{AssertMetric.AssertMetric, JoinTimerRow.JoinTimerRow}}
 use Rattle.pim_model.{specs.{Network.{Move, Network, Station, station_at}, Tables.row_at}}
-use Rattle.law_streams.{specs.{Adjacent.most_late_hello, InTimeJoins.{Always, AreThere, IsJoin, IsUnlost, Join, Wants, join_key}}}
-use Rattle.law_converges.{specs.{Carried.{Arrivals, EachMove, IsCarried, Traffic}, CarriedLinks.{Ask, HearsJoins, JoinKeeps, Meet, Yields, pair_of}, CarriedPrunes.{AreKnown, Wish, WishKeeps, wire_of}, JoinedWays.{AreTogether, IsDue, IsNear, a_hop}, LinkDr.{IsOne, Member, between}, LinkLosers.{AssertsBy, most_late_assert}, LinkMembers.AnswersInTime, LinkRptOrder.{Begins, IsOverridable}, OneSender.IsOffTree, Past.HoldsPast, Settles.{Contest, HasSettled, Joining, Layout, Link, Way, routers}}}
+use Rattle.law_streams.{specs.{Adjacent.most_late_hello, InTimeJoins.{Always, IsJoin, IsUnlost, Join, Wants, join_key}}}
+use Rattle.law_converges.{specs.{Carried.{Arrivals, EachMove, IsCarried, Traffic}, CarriedLinks.{Ask, HearsJoins, JoinKeeps, Meet, Yields, pair_of}, CarriedPrunes.{AreKnown, Wish, WishKeeps, wire_of}, JoinedWays.{AreTogether, IsDue, IsNear, a_hop}, LinkDr.{IsOne, Member, between}, LinkLosers.{AssertsBy, most_late_assert}, LinkMembers.AnswersInTime, LinkRptOrder.{Begins, IsOverridable}, OneSender.IsOffTree, Past.HoldsPast, RpfJoins.IsNextHop, Settles.{Contest, HasSettled, Joining, Layout, Link, Way, routers}}}
 
 -- ---- what there is
 
@@ -94,7 +94,7 @@ pub record AreOn (a : Lan) (x y : Member) : Type 0 where
 pub record JoinIsQuiet (d bound : ℕ) (started : ℕ → ℕ) (t : Traffic) (n : Network) (ms : List Move) (a : Lan) (j : JoinOver) : Type 0 where
   pub addresses : IsJoin j.join j.group
   pub on : AreOn a j.lower j.upper
-  pub there : Always (AreThere j.join j.group (pair_of (number_of a) j.lower j.upper)) n ms
+  pub there : Always (IsNextHop j.join j.group (pair_of (number_of a) j.lower j.upper)) n ms
   pub keeps : EachMove (JoinKeeps j.join j.group t (pair_of (number_of a) j.lower j.upper)) n ms
   pub hears : EachMove (HearsJoins j.join j.group (pair_of (number_of a) j.lower j.upper)) n ms
   pub wants : Always (Wants j.join j.group (j.lower).router) n ms
@@ -148,7 +148,7 @@ pub record HopIsQuiet (x : Join) (g : ℕ) (t : Traffic) (lans : List Lan) (n : 
   pub among : IsOneLan lans h.lan
   pub on : AreOn h.lan h.lower h.upper
   pub near : IsNear x g (h.lower).router n
-  pub there : Always (AreThere x g (pair_of (number_of h.lan) h.lower h.upper)) n ms
+  pub there : Always (IsNextHop x g (pair_of (number_of h.lan) h.lower h.upper)) n ms
   pub keeps : EachMove (JoinKeeps x g t (pair_of (number_of h.lan) h.lower h.upper)) n ms
   pub hears : EachMove (HearsJoins x g (pair_of (number_of h.lan) h.lower h.upper)) n ms
   pub unlost : Always (IsUnlost x g (pair_of (number_of h.lan) h.lower h.upper)) n ms

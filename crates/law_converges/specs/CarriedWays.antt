@@ -2,7 +2,7 @@
 -- carry what is sent on them.
 use Rattle.std.{specs.{Prelude.{List, Some, [], false, ℕ, ◌<◌, ◌∷◌, ◌≡◌, ◌⊎◌}}}
 use Rattle.pim_model.{specs.{Network.{Move, Network, Station, station_at}, Sets.{assert_source, assert_star, is_loser, prunes}, State.iface_count}}
-use Rattle.law_streams.{specs.{InTimeJoins.{Pair, Star}, Passing.{Receiver, Tree}}}
+use Rattle.law_streams.{specs.{InTimeJoins.{Pair, Star}, Passing.Tree}}
 use Rattle.law_converges.{specs.{Carried.{Arrivals, EachMove, Traffic}, CarriedLinks.pair_of, CarriedNetwork.{HopOn, IsQuietPlan, Plan, WayOver, number_of}, ComesOnce.{AllCameDown, AreAlonePast, AreServedOnce, Forwarder, Forwards, HasOneOn, Root}, Past.{HoldsPast, HoldsPastOn}, PassedOnce.IsOnTree}}
 
 -- the next hop as a pair of routers
@@ -17,14 +17,12 @@ forwarders h (k ∷ ks) = record {
   above = number_of k.lan;
   down = (h.upper).iface;
   below = number_of h.lan;
-  tree = Tree.Shared;
-  receiver = Receiver.Router;
 }
     ∷ forwarders k ks
 
 -- the last next hop, as the RP
 abbrev pub root_of : HopOn → List HopOn → Root
-root_of h [] = record { router = (h.upper).router; down = (h.upper).iface; below = number_of h.lan }
+root_of h [] = record { tree = Tree.Shared; router = (h.upper).router; down = (h.upper).iface; below = number_of h.lan }
 root_of h (k ∷ ks) = root_of k ks
 
 -- nothing keeps the source's packets from the link of a next hop: neither the assert of the group nor that of the source is lost

@@ -1,7 +1,6 @@
 -- On the two LANs each packet of the source that comes to the RP comes once to the first one. Computed by the kernel.
 use Rattle.std.{specs.Prelude.{[], ◌∷◌}}
 use Rattle.pim_model.{specs.Network.{At, Network, moved, network_ran}}
-use Rattle.law_streams.{specs.Passing.{Receiver, Tree}}
 use Rattle.pim_runs.{specs.{Base.rp, InTime.started, ServedChain.{asked_group, content}}}
 use Rattle.law_converges.{specs.{Carried.EachMove, CarriedNetwork.HopOn, CarriedNetworkRun.{before, bound, by_register, high_lan, moves, nearer_on_high, plan, rp_on_high, serving, source_sends, source_there, traffic, until_then}, CarriedWays.{IsOpen, root_of}, ComesOnce.{AllCameDown, AreAlonePast, ComesOnce, Forwarder}, Past.HoldsPastOn}}
 
@@ -10,7 +9,7 @@ abbrev pub its_hop : HopOn
 its_hop = record { lan = high_lan; lower = nearer_on_high; upper = rp_on_high }
 
 abbrev pub to_host : Forwarder
-to_host = record { self = nearer_on_high; above = 2; down = 0; below = 1; tree = Tree.Shared; receiver = Receiver.Host }
+to_host = record { self = nearer_on_high; above = 2; down = 0; below = 1 }
 
 -- From the bound on nothing keeps the packets back, and no other router sends them on either LAN.
 abbrev pub PlanIsOpen : Type 0

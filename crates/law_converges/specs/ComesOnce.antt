@@ -3,24 +3,23 @@
 use Rattle.std.{specs.{List.{AllByRecursion, Contains}, Prelude.{List, Ok, Some, [], false, length, slice_get, true, ℕ, ◌*◌, ◌+◌, ◌<◌, ◌==◌, ◌∷◌, ◌≡◌, ◌≤◌, ◌⊎◌}}}
 use Rattle.pim_ip.{specs.Ipv4.{Packet, copy_text, ipv4_reading, is_link_local, is_multicast, protocol_igmp}}
 use Rattle.pim_types.{specs.declared.event.Event.Event}
-use Rattle.pim_model.{specs.{Cause.{done_as, packet_in}, Network.{Deliver, Move, Network, Station, event_of, frame_at, moved, network_ran, station_at}, Writing.on_link}}
-use Rattle.law_streams.{specs.{Copies.{copies_at, happens}, Flows.IsCarried as Carried, InTimeJoins.time_at, Passing.{Passes, Receiver, Tree}, Roots.IsBrought, StreamRoots.Sends}}
+use Rattle.pim_model.{specs.{Cause.{done_as, packet_in}, Full.source_is_full, Network.{Deliver, Move, Network, Station, event_of, frame_at, moved, network_ran, station_at}, Sets.spt_bit, State.{State, iface_count, is_own, is_up}, Unicast.is_rpf_interface, Writing.on_link}}
+use Rattle.law_streams.{specs.{Copies.{copies_at, happens}, Flows.IsCarried as Carried, InTimeJoins.time_at, Passing.{Passes, Receiver, Tree}, Roots.{ArrivesFor, IsBrought, OnTree}, Served.{IsSourceJoined, IsSourceMember, OnShortestPath, renewed}, StreamRoots.Sends, Turning.may_turn}}
 use Rattle.law_converges.{specs.{Carried.{Arrivals, Carries, EachMove, IsSentBy, Traffic}, LinkDr.{IsOne, Member}, Past.{ArePast, HoldsPast, HoldsPastOn}}}
 
 -- ---- a way
 
--- a router of a way, with its interface on the link above, where the packets come in, and the one on the link below; they come on a
--- tree, and go out for a router or for a host there
+-- a router of a way, with its interface on the link above, where the packets come in, and the one on the link below
 pub record Forwarder : Type 0 where
   pub self : Member
   pub above : ℕ
   pub down : ℕ
   pub below : ℕ
-  pub tree : Tree
-  pub receiver : Receiver
 
--- the router at the top of a way, at which the packets come, with its interface on the link below
+-- the router at the top of a way, at which the packets come, with its interface on the link below: the way is of the group's tree, or of
+-- the source's own
 pub record Root : Type 0 where
+  pub tree : Tree
   pub router : ℕ
   pub down : ℕ
   pub below : ℕ
@@ -30,18 +29,40 @@ pub record HasOneOn (down link : ℕ) (st : Station) : Type 0 where
   pub linked : slice_get st.links down ≡ Some link
   pub single : (i : ℕ) → slice_get st.links i ≡ Some link → i ≡ down
 
+-- a router on the link joined the group, or on the source's own tree the source
+abbrev pub SendsOn : Tree → State → (g src down : ℕ) → Type 0
+SendsOn Tree.Shared s g src down = Sends s g src down
+SendsOn Tree.Source s g src down = IsSourceJoined s g src down
+
 -- the root sends what comes to it on the link below
 pub record SendsDown (g src : ℕ) (root : Root) (n : Network) : Type 0 where
   pub station : Station
   pub there : station_at n root.router ≡ Some station
-  pub sends : Sends station.state g src root.down
+  pub sends : SendsOn root.tree station.state g src root.down
   pub below : HasOneOn root.down root.below station
+
+-- The source's packets come in on the way to the source, and SPTbit is set, or is with the first of them; they go out to a host that asked
+-- for the source, or to a router that joined it.
+pub record PassesSource (s : State) (g src up down : ℕ) : Type 0 where
+  pub configured : up < iface_count s
+  pub is_up : is_up s up ≡ true
+  pub foreign : is_own s src ≡ false
+  pub way : is_rpf_interface s src up ≡ true
+  pub turns : (spt_bit s g src ≡ true) ⊎ (may_turn s g src up ≡ true)
+  pub wanted : IsSourceMember s g src down ⊎ IsSourceJoined s g src down
+  pub room : source_is_full s g src ≡ false
+  pub on : (down == up) ≡ false
+
+-- a router passes a source's packets from an interface to another: as a stream, or on the source's own tree
+pub data PassesOn (s : State) (g src up down : ℕ) : Type 0 where
+  Stream : (tree : Tree) (by : Receiver) → Passes tree by s g src up down → PassesOn s g src up down
+  OfSource : PassesSource s g src up down → PassesOn s g src up down
 
 -- a router forwards each packet of the source from the link above to the link below
 pub record Forwards (g src : ℕ) (f : Forwarder) (n : Network) : Type 0 where
   pub station : Station
   pub there : station_at n (f.self).router ≡ Some station
-  pub passes : Passes f.tree f.receiver station.state g src (f.self).iface f.down
+  pub passes : PassesOn station.state g src (f.self).iface f.down
   pub above : slice_get station.links (f.self).iface ≡ Some f.above
   pub below : HasOneOn f.down f.below station
 
@@ -115,13 +136,19 @@ abbrev pub EachMoveOn : (Network → Move → List Move → Type 0) → Network 
 EachMoveOn P n [] = Unit {0}
 EachMoveOn P n (m ∷ ms) = P n m ms × EachMoveOn P (moved n m).1 ms
 
+-- on the source's own tree the packet comes to the root on the way to the source, with SPTbit set
+abbrev pub IsOfTree : Tree → (s : State) (e : Event) (p : Packet) (j : ℕ) → ArrivesFor s e p j → Type 0
+IsOfTree Tree.Shared s e p j a = Unit {0}
+IsOfTree Tree.Source s e p j (OnTree i is on off) = OnShortestPath (renewed s p.destination p.source i.number) p.destination p.source i.number
+IsOfTree Tree.Source s e p j a = ⊥
+
 -- if a move brings a packet of the source to the root, on a tree or in a Register, it comes down exactly once, within d for each
 -- router of the way, if the moves go so far
 pub record IsServedOnce (g src d : ℕ) (started : ℕ → ℕ) (t : Traffic) (root : Root) (link : ℕ) (fs : List Forwarder) (n : Network) (m : Move)
     (ms : List Move) : Type 0 where
   pub served : (e : Event) (before after : Station) (payload : List ℕ) (lives : ℕ) → event_of n m ≡ Some (root.router, e)
       → station_at n root.router ≡ Some before → station_at (moved n m).1 root.router ≡ Some after → 0 < lives
-      → IsBrought before.state e g src root.down payload (lives + length fs)
+      → (b : IsBrought before.state e g src root.down payload (lives + length fs)) → IsOfTree root.tree before.state e b.packet root.down b.comes
       → ArePast started (time_at started root.router after + length fs * d) (network_ran (moved n m).1 ms).1
       → ComesOnce g src link payload lives (time_at started root.router after + length fs * d) t root fs n m ms
 

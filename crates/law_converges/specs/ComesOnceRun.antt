@@ -2,7 +2,7 @@
 -- once. Computed by the kernel.
 use Rattle.std.{specs.{List.AllByRecursion, Prelude.{List, [], if◌then◌else◌, nat_le, ℕ, ◌==◌, ◌∷◌}}}
 use Rattle.pim_model.{specs.{Network.{At, Deliver, Move, Network, moved, network_ran}}}
-use Rattle.law_streams.{specs.Passing.{Receiver, Tree}}
+use Rattle.law_streams.{specs.Passing.Tree}
 use Rattle.pim_runs.{specs.{InTime.started, ServedChain.{asked_group, content, register, sender}, Words.{address, advance, unicast}}}
 use Rattle.law_converges.{specs.{Carried.{Arrivals, EachMove, IsSentBy, Traffic}, ComesOnce.{AreForwarding, ComesOnce, Forwarder, HearsAll, Root}, JoinedWaysRun.{all_to, joining, unjoined}, LinkDr.Member, Past.HoldsPast}}
 
@@ -15,13 +15,13 @@ second_on_high = record { router = 1; iface = 1; address = address 10 0 2 1; pri
 
 -- the first one passes the packets on to the host's link, and the second one to the link between both, on which the RP isn't
 abbrev pub to_host : Forwarder
-to_host = record { self = first_on_low; above = 1; down = 0; below = 3; tree = Tree.Shared; receiver = Receiver.Host }
+to_host = record { self = first_on_low; above = 1; down = 0; below = 3 }
 
 abbrev pub to_first : Forwarder
-to_first = record { self = second_on_high; above = 2; down = 0; below = 1; tree = Tree.Shared; receiver = Receiver.Router }
+to_first = record { self = second_on_high; above = 2; down = 0; below = 1 }
 
 abbrev pub at_rp : Root
-at_rp = record { router = 2; down = 0; below = 2 }
+at_rp = record { tree = Tree.Shared; router = 2; down = 0; below = 2 }
 
 -- all that was sent before has come, or is lost
 abbrev pub all_joined : Network

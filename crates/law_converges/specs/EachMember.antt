@@ -5,14 +5,21 @@ use Rattle.std.{specs.{List.AllByRecursion, Prelude.{List, Some, [], false, map,
 use Rattle.pim_types.{specs.Keys.source_key}
 use Rattle.pim_model.{specs.{Full.source_is_full, Network.{Move, Network, Station, station_at}, Receivers.local_receiver_exclude, Sets.spt_bit, State.is_own, Unicast.is_rpf_interface}}
 use Rattle.law_streams.{specs.InTimeJoins.{IsHeld, Star}}
-use Rattle.law_converges.{specs.{AloneOnLink.{AreMembers, ComesDownTheWay}, Carried.{Arrivals, EachMove, Traffic}, CarriedNetwork.{HopOn, IsQuietPlan, Lan, Plan, number_of}, CarriedWays.{forwarders, pair_on, root_of}, ComesOnce.{AllCameDown, AreServedOnce}, JoinedWays.a_hop, LinkDr.Member, MemberLinks.{ServesMember, Unbeaten, to_hosts}, Past.{ArePast, HoldsPast, HoldsPastOn}, RoutesToRp.{AllCanJoin, AreRpf, RoutesLead, Routing, heard_by, hops_up}, Settles.routers, Unheard.{HearsNoBetter, HearsNoPrune}}}
+use Rattle.law_converges.{specs.{AloneOnLink.{AreMembers, ComesDownTheWay}, Carried.{Arrivals, EachMove, Traffic}, CarriedNetwork.{HopOn, IsQuietPlan, Lan, Plan, number_of}, CarriedWays.{forwarders, pair_on, root_of}, ComesOnce.{AllCameDown, AreServedOnce}, JoinedWays.a_hop, LinkDr.Member, LoserJoins.YieldsTo, MemberLinks.{ServesMember, Unbeaten, to_hosts}, Past.{ArePast, HoldsPast, HoldsPastOn}, RoutesToRp.{AllCanJoin, AreRpf, IsNamed, RoutesLead, Routing, heard_by, hops_up}, Settles.routers, Unheard.{HearsNoBetter, HearsNoPrune}}}
 
 -- ---- what is asked
 
--- at each router at a distance but 0, and at its next hop, no assert of the group is lost on the LAN between them
-abbrev pub NoneBeaten : (g bound : ℕ) → (ℕ → ℕ) → Routing → Network → List Move → Type 0
-NoneBeaten g bound started routing n ms = (r k : ℕ) → routing.distance r ≡ Some (suc k)
-    → Unbeaten g bound started n ms (routing.next r).lan (routing.next r).lower × Unbeaten g bound started n ms (routing.next r).lan (routing.next r).upper
+-- Whom a router comes to join over on the LAN of its route: whom the route names, and neither loses an assert of the group there; or the
+-- winner of that assert, to which it gives way.
+pub data ComesOver (rp g d bound : ℕ) (started : ℕ → ℕ) (n : Network) (ms : List Move) (h : HopOn) : Type 0 where
+  NeitherBeaten : HoldsPast started bound (IsNamed (Star rp) g h) n ms → Unbeaten g bound started n ms h.lan h.lower
+      → Unbeaten g bound started n ms h.lan h.upper → ComesOver rp g d bound started n ms h
+  GivesWay : YieldsTo (Star rp) g d bound started h n ms → ComesOver rp g d bound started n ms h
+
+-- so it is with each router at a distance but 0
+abbrev pub EachComesOver : (rp g d bound : ℕ) → (ℕ → ℕ) → Routing → Network → List Move → Type 0
+EachComesOver rp g d bound started routing n ms =
+    (r k : ℕ) → routing.distance r ≡ Some (suc k) → ComesOver rp g d bound started n ms (routing.next r)
 
 -- a router takes a source's packets on the group's tree: they aren't its own, and don't come on the source's own tree from elsewhere; and
 -- it has room for the source
@@ -73,5 +80,5 @@ abbrev pub EachMemberIsServed : Type 0
 EachMemberIsServed = (g src rp d late lag bound limit k : ℕ) (started : ℕ → ℕ) (t : Traffic) (came : Arrivals) (plan : Plan) (routing : Routing)
     (n : Network) (ms : List Move) (a : Lan) (x : Member) (h : HopOn) (hs : List HopOn) → IsQuietPlan d late lag bound started t came plan n ms
     → AllByRecursion (λ (b : Lan). AreMembers (number_of b) (routers b.link) n) plan.lans → RoutesLead (Star rp) g plan.lans routing n ms
-    → NoneBeaten g bound started routing n ms → AllCanJoin (Star rp) g t routing n ms
+    → EachComesOver rp g d bound started routing n ms → AllCanJoin (Star rp) g t routing n ms
     → IsReached g src d lag bound limit k started plan routing n ms a x h hs → IsServed g src rp d bound limit started t plan n ms a x h hs

@@ -3,8 +3,8 @@
 use Rattle.std.{specs.Prelude.{List, Some, [], false, ℕ, ◌*◌, ◌+◌, ◌<◌, ◌==◌, ◌∷◌, ◌≡◌, ◌≤◌}}
 use Rattle.pim_types.{specs.declared.{config.Config.Config, event.Event.Event, fact.JoinTimerRow.JoinTimerRow}}
 use Rattle.pim_model.{specs.{Network.{Move, Network, Station, station_at}, State.opening, Step.state_after, Tables.row_at}}
-use Rattle.law_streams.{specs.InTimeJoins.{Always, AreInTime, AreThere, IsBy, IsHeld, IsJoin, IsReady, IsUnlost, Join, Pair, Wants, join_key, most_late, time_at}}
-use Rattle.law_converges.{specs.Past.HoldsPast}
+use Rattle.law_streams.{specs.InTimeJoins.{Always, AreInTime, IsBy, IsHeld, IsJoin, IsReady, IsUnlost, Join, Pair, Wants, join_key, most_late, time_at}}
+use Rattle.law_converges.{specs.{Past.HoldsPast, RpfJoins.IsNextHop}}
 
 -- the longest that a Join timer runs: where another router's Join holds a Join back, 1.4 times the period of 60 s
 abbrev pub longest_join : ℕ
@@ -33,7 +33,7 @@ pub record IsHop (x : Join) (g d : ℕ) (started : ℕ → ℕ) (n : Network) (m
   pub lower_ready : IsReady c.lower n
   pub upper_ready : IsReady c.upper n
   pub near : IsNear x g c.lower n
-  pub there : Always (AreThere x g c) n ms
+  pub there : Always (IsNextHop x g c) n ms
   pub in_time : AreInTime x g d started c n ms
   pub unlost : Always (IsUnlost x g c) n ms
 

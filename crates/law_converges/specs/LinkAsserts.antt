@@ -1,10 +1,10 @@
 -- Two routers of a link that are both the winner of an assert: the one with the better metric answers the other's Assert,
 -- and by its answer the other is the winner no longer (RFC 7761, 4.6.1 and 4.6.2).
-use Rattle.std.{specs.{List.Contains, Prelude.{Bool, List, None, Some, false, if◌then◌else◌, length, not, slice_get, true, ℕ, ◌&&◌, ◌+◌, ◌<◌, ◌==◌, ◌||◌, ◌≡◌, ◌⊎◌, ◌^◌}}}
+use Rattle.std.{specs.{List.Contains, Option.option_map_or, Prelude.{Bool, List, None, Some, false, if◌then◌else◌, length, not, slice_get, true, ℕ, ◌&&◌, ◌+◌, ◌<◌, ◌==◌, ◌||◌, ◌≡◌, ◌⊎◌, ◌^◌}}}
 use Rattle.pim_ip.{specs.{declared.addr.Addr.Addr, Addr.addr, Ipv4.{all_pim_routers, first_multicast, is_link_local, is_multicast, is_unicast, pim_packet_text}}}
 use Rattle.pim_types.{specs.{Keys.{source_key, star_key}, declared.{config.IfaceId.IfaceId, event.Event.Event, fact.{AssertMetric.AssertMetric, AssertRole.AssertRole, AssertRow.AssertRow, Key.Key}}}}
 use Rattle.pim_wire.{specs.{Asserts.assert_text, declared.assert.Assert.Assert as AssertMessage}}
-use Rattle.pim_model.{specs.{declared.accepted.Accepted.Accepted, Asserts.{asserted_metric, is_acceptable, is_from_winner, is_inferior, is_of_tree, theirs_of}, Cause.done_as, Full.is_full, Network.{Deliver, Move, Network, Station, event_of, frame_at, moved, network_ran, station_at}, Sets.{is_better, is_winner}, State.{State, my_address}, Step.step, Tables.row_at, Writing.on_link}}
+use Rattle.pim_model.{specs.{declared.accepted.Accepted.Accepted, Asserts.{asserted_metric, is_acceptable, is_from_winner, is_inferior, is_of_tree, is_tracking_at, theirs_of}, Cause.done_as, Full.is_full, Network.{Deliver, Move, Network, Station, event_of, frame_at, moved, network_ran, station_at}, Sets.{is_better, is_winner}, State.{State, my_address}, Step.step, Tables.row_at, Writing.on_link}}
 use Rattle.law_streams.{specs.{Adjacent.Adjacent, Copies.happens, Joins.Hears}}
 
 -- ---- at one router
@@ -23,6 +23,13 @@ abbrev pub gives_way : State → Key → AssertRow → AssertMetric → Bool
 gives_way s k r theirs =
     is_better theirs r.winner
     || (not (is_winner (Some r)) && (is_from_winner r theirs && (is_acceptable s k theirs && is_of_tree k theirs)))
+
+-- A metric by which a machine loses, or has lost for longer. In NoInfo it is acceptable, which is better than what the router would assert
+-- itself, of (S,G) has RPTbit clear, and AssertTrackingDesired holds. A winner gives way to what is better than what it won with.
+abbrev pub loses_to : State → Key → AssertMetric → Bool
+loses_to s k theirs =
+    option_map_or (λ (r : AssertRow). gives_way s k r theirs) (row_at s.asserts k)
+    (is_acceptable s k theirs && (is_of_tree k theirs && is_tracking_at s k))
 
 -- the row of who lost to a metric, until a timestamp
 abbrev pub lost_to : AssertMetric → ℕ → AssertRow
@@ -92,14 +99,12 @@ pub record AnswersBy (g src : ℕ) (metric : AssertMetric) (c : Adjacent) (n : N
   pub own : my_address station.state c.iface ≡ c.address
   pub linked : slice_get station.links c.iface ≡ Some c.link
 
--- the other one hears the first one, has room, and gives way to its Assert
+-- the other one hears the first one, has room, and gives way to its Assert, or loses to it without an assert of its own
 pub record CanGiveWay (g src : ℕ) (metric : AssertMetric) (c : Adjacent) (st : Station) : Type 0 where
   pub hears : Hears st.state c.down c.address
   pub linked : slice_get st.links c.down ≡ Some c.link
   pub room : is_full st.state (Accepted.Assert (record { number = c.down }) (addr c.address) (said g src metric)) ≡ false
-  pub row : AssertRow
-  pub found : row_at (st.state).asserts (key_about c.down (said g src metric)) ≡ Some row
-  pub gives : gives_way st.state (key_about c.down (said g src metric)) row (theirs_of (said g src metric) c.address) ≡ true
+  pub gives : loses_to st.state (key_about c.down (said g src metric)) (theirs_of (said g src metric) c.address) ≡ true
 
 -- the other one has lost the assert to the first one
 pub record LosesTo (g src : ℕ) (metric : AssertMetric) (c : Adjacent) (st : Station) (n : Network) : Type 0 where

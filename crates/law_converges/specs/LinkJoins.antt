@@ -3,7 +3,8 @@
 use Rattle.std.{specs.Prelude.{List, Some, [], false, ℕ, ◌*◌, ◌+◌, ◌<◌, ◌==◌, ◌∷◌, ◌≡◌, ◌≤◌, ◌⊎◌}}
 use Rattle.pim_types.{specs.declared.fact.JoinTimerRow.JoinTimerRow}
 use Rattle.pim_model.{specs.{Network.{Move, Network, Station, moved, station_at}, Tables.row_at}}
-use Rattle.law_streams.{specs.InTimeJoins.{Always, AreInTime, AreThere, IsHeld, IsJoin, IsReady, Join, Pair, Wants, join_key, most_late, time_at}}
+use Rattle.law_streams.{specs.InTimeJoins.{Always, AreInTime, IsHeld, IsJoin, IsReady, Join, Pair, Wants, join_key, most_late, time_at}}
+use Rattle.law_converges.{specs.RpfJoins.IsNextHop}
 
 -- the pair is one of these
 abbrev pub IsPairOf : List Pair → Pair → Type 0
@@ -16,7 +17,7 @@ pub record JoinsOver (x : Join) (g d bound : ℕ) (started : ℕ → ℕ) (n : N
   pub apart : (c.lower == c.upper) ≡ false
   pub lower_ready : IsReady c.lower n
   pub upper_ready : IsReady c.upper n
-  pub there : Always (AreThere x g c) n ms
+  pub there : Always (IsNextHop x g c) n ms
   pub in_time : AreInTime x g d started c n ms
   pub wants : Always (Wants x g c.lower) n ms
   pub station : Station

@@ -3,7 +3,7 @@
 use Rattle.std.{specs.Prelude.{List, [], false, ℕ, ◌∷◌, ◌≡◌, ◌⊎◌}}
 use Rattle.pim_types.{specs.Keys.star_key}
 use Rattle.pim_model.{specs.Network.{Move, Network}}
-use Rattle.law_streams.{specs.{InTimeJoins.{Star, Wants}, Passing.{Receiver, Tree}}}
+use Rattle.law_streams.{specs.InTimeJoins.{Star, Wants}}
 use Rattle.law_converges.{specs.{Carried.{Arrivals, Traffic}, CarriedNetwork.{Claim, HopOn, IsOneLan, IsQuietPlan, Lan, Plan, number_of}, ComesOnce.Forwarder, LinkDr.{IsOne, Member, is_preferred}, Past.HoldsPast, Settles.routers, Unheard.HearsNoBetter}}
 
 -- ---- who serves a link
@@ -49,6 +49,4 @@ to_hosts a x h = record {
   above = number_of h.lan;
   down = x.iface;
   below = number_of a;
-  tree = Tree.Shared;
-  receiver = Receiver.Host;
 }

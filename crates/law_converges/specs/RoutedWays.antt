@@ -2,7 +2,7 @@
 use Rattle.std.{specs.Prelude.{List, Some, [], false, not, slice_get, ℕ, ◌&&◌, ◌==◌, ◌∷◌, ◌≡◌}}
 use Rattle.pim_model.{specs.{Full.source_is_full, Network.{Move, Network, Station, station_at}, Sets.{assert_source, is_loser, prunes, spt_bit}, State.is_own, Unicast.is_rpf_interface}}
 use Rattle.law_streams.{specs.InTimeJoins.Star}
-use Rattle.law_converges.{specs.{Carried.{Arrivals, EachMove, Traffic}, CarriedNetwork.{HopOn, IsQuietPlan, Plan, number_of}, CarriedWays.{forwarders, root_of}, ComesOnce.{AllCameDown, AreAlonePast, AreServedOnce, Forwarder, Forwards}, Past.{HoldsPast, HoldsPastOn}, RoutesToRp.{AllCanJoin, NoneLostOn, RoutesLead, Routing, WantsFrom, hops_up}}}
+use Rattle.law_converges.{specs.{Carried.{Arrivals, EachMove, Traffic}, CarriedNetwork.{HopOn, IsQuietPlan, Plan, number_of}, CarriedWays.{forwarders, root_of}, ComesOnce.{AllCameDown, AreAlonePast, AreServedOnce, Forwarder, Forwards}, Past.{HoldsPast, HoldsPastOn}, RoutesToRp.{AllCanJoin, AreChosen, RoutesLead, Routing, WantsFrom, hops_up}}}
 
 -- nothing keeps a source's packets from the LAN of a next hop: it hasn't lost the assert of the source there, nobody prunes the
 -- source, and it has one interface there
@@ -50,6 +50,6 @@ pub record IsServed (g d : ℕ) (started : ℕ → ℕ) (bound : ℕ) (t : Traff
 abbrev pub EveryWantIsServedOnce : Type 0
 EveryWantIsServedOnce = (g rp d late lag bound limit : ℕ) (started : ℕ → ℕ) (t : Traffic) (came : Arrivals) (plan : Plan) (routing : Routing)
     (n : Network) (ms : List Move) (r k : ℕ) → IsQuietPlan d late lag bound started t came plan n ms
-    → RoutesLead (Star rp) g plan.lans routing n ms → NoneLostOn (Star rp) g bound started routing n ms → AllCanJoin (Star rp) g t routing n ms
+    → RoutesLead (Star rp) g plan.lans routing n ms → AreChosen (Star rp) g bound started routing n ms → AllCanJoin (Star rp) g t routing n ms
     → routing.distance r ≡ Some k → WantsFrom (Star rp) g d lag started bound limit r k n ms → (h : HopOn) (hs : List HopOn)
     → hops_up routing k r ≡ h ∷ hs → IsServed g d started limit t n ms h hs

@@ -1,11 +1,11 @@
 -- Ways that follow the routes: where the routers' routes to the RP, or to the source, lead over LANs, and without a loop, there is a
--- way from each router, and it comes to be joined when the router wants the group. So the ways needn't be given, nor need the
--- routers be neighbours to begin with (RFC 7761, 4.1.5 and 4.5.4).
+-- way from each router, and it comes to be joined when the router wants the group. Where an assert is lost on a LAN, the way is over its
+-- winner. So the ways needn't be given, nor need the routers be neighbours to begin with (RFC 7761, 4.1.5 and 4.5.4).
 use Rattle.std.{specs.{List.AllByRecursion, Prelude.{List, Option, Some, [], false, length, map, suc, true, zero, ℕ, ◌*◌, ◌+◌, ◌<◌, ◌==◌, ◌∷◌, ◌≡◌, ◌≤◌}}}
 use Rattle.pim_ip.{specs.Ipv4.is_unicast}
-use Rattle.pim_types.{specs.declared.path.Path.Path}
-use Rattle.pim_model.{specs.{Network.{Deliver, Move, Network, Station, frame_at, station_at}, State.{State, is_own}, Tables.hop_at, Unicast.is_connected}}
-use Rattle.law_streams.{specs.{Adjacent.most_late_hello, InTimeJoins.{Always, IsHeld, IsJoin, IsReady, IsRp, Join, Pair, Source, Star, Wants, is_lost_at, rpf_of, way_to}, Shared.frame_from}}
+use Rattle.pim_types.{specs.declared.{fact.AssertRow.AssertRow, path.Path.Path}}
+use Rattle.pim_model.{specs.{Network.{Deliver, Move, Network, Station, frame_at, station_at}, Sets.is_loser, State.{State, is_own}, Tables.{hop_at, row_at}, Unicast.is_connected}}
+use Rattle.law_streams.{specs.{Adjacent.most_late_hello, InTimeJoins.{Always, IsHeld, IsJoin, IsReady, IsRp, Join, Pair, Source, Star, Wants, is_lost_at, join_key, rpf_of, way_to}, Shared.frame_from}}
 use Rattle.law_converges.{specs.{Carried.{Arrivals, EachMove, IsCarried, Traffic}, CarriedLinks.{HelloKeeps, JoinKeeps}, CarriedNetwork.{AreOn, HopOn, IsOneLan, Lan, number_of}, CarriedWays.pair_on, JoinedWays.{AreTogether, IsNear, a_hop}, LinkDr.{GreetsBy, IsOne, Member, Stands, between}, Past.HoldsPast, Settles.routers}}
 
 -- ---- the LANs
@@ -48,7 +48,7 @@ pub record EndsAt (x : Join) (g r : ℕ) (n : Network) : Type 0 where
   pub there : station_at n r ≡ Some station
   pub top : IsTop x g station.state
 
--- the route of the lower router of a hop to its RP, or to the source, is over the upper one's address, and both have that RP
+-- the route of the lower router of a hop to its RP, or to the source, is over the LAN, and both have that RP
 pub record IsRouted (x : Join) (g : ℕ) (h : HopOn) (n : Network) : Type 0 where
   pub below : Station
   pub below_is : station_at n (h.lower).router ≡ Some below
@@ -56,14 +56,21 @@ pub record IsRouted (x : Join) (g : ℕ) (h : HopOn) (n : Network) : Type 0 wher
   pub path : Path
   pub route : way_to x below.state g ≡ Some path
   pub over : path.iface.number ≡ (h.lower).iface
-  pub to : path.next_hop.bits ≡ (h.upper).address
   pub above : Station
   pub above_is : station_at n (h.upper).router ≡ Some above
   pub rp_above : IsRp x above.state g
   -- the lower one's address isn't one of the upper one
   pub foreign : is_own above.state (h.lower).address ≡ false
 
--- a router's route is over another router of a LAN, which is nearer by one at least
+-- the route of the lower router of a hop names the upper one
+pub record IsNamed (x : Join) (g : ℕ) (h : HopOn) (n : Network) : Type 0 where
+  pub station : Station
+  pub there : station_at n (h.lower).router ≡ Some station
+  pub path : Path
+  pub route : way_to x station.state g ≡ Some path
+  pub to : path.next_hop.bits ≡ (h.upper).address
+
+-- a router's route is over a LAN, and its next hop there is nearer by one at least
 pub record LeadsUp (x : Join) (g : ℕ) (lans : List Lan) (routing : Routing) (n : Network) (ms : List Move) (r k : ℕ) : Type 0 where
   pub from : ((routing.next r).lower).router ≡ r
   pub among : IsOneLan lans (routing.next r).lan
@@ -78,26 +85,34 @@ pub record RoutesLead (x : Join) (g : ℕ) (lans : List Lan) (routing : Routing)
   pub top : (r : ℕ) → routing.distance r ≡ Some 0 → Always (EndsAt x g r) n ms
   pub up : (r k : ℕ) → routing.distance r ≡ Some (suc k) → LeadsUp x g lans routing n ms r k
 
--- neither router of a hop has lost the assert of what is joined on the LAN
-pub record NoneLost (x : Join) (g : ℕ) (h : HopOn) (n : Network) : Type 0 where
+-- Whom the lower router of a hop joins over, on the LAN of its route: whom the route names, where the assert of what is joined isn't lost
+-- there; or the winner of the assert that is lost there.
+pub data Chooses (x : Join) (g : ℕ) (h : HopOn) (s : State) : Type 0 where
+  ByRoute : (p : Path) → way_to x s g ≡ Some p → p.next_hop.bits ≡ (h.upper).address → is_lost_at x s g (h.lower).iface ≡ false
+      → Chooses x g h s
+  ByAssert : (r : AssertRow) → row_at s.asserts (join_key x (h.lower).iface g) ≡ Some r → is_loser (Some r) ≡ true
+      → r.winner.address.bits ≡ (h.upper).address → Chooses x g h s
+
+-- that is the upper one, which hasn't lost the assert of what is joined there
+pub record IsChosen (x : Join) (g : ℕ) (h : HopOn) (n : Network) : Type 0 where
   pub below : Station
   pub below_is : station_at n (h.lower).router ≡ Some below
-  pub unlost_below : is_lost_at x below.state g (h.lower).iface ≡ false
+  pub chooses : Chooses x g h below.state
   pub above : Station
   pub above_is : station_at n (h.upper).router ≡ Some above
   pub unlost_above : is_lost_at x above.state g (h.upper).iface ≡ false
 
--- from a bound on no router at a distance but 0 has lost it, nor has its next hop
-abbrev pub NoneLostOn : Join → (g bound : ℕ) → (ℕ → ℕ) → Routing → Network → List Move → Type 0
-NoneLostOn x g bound started routing n ms =
-    (r k : ℕ) → routing.distance r ≡ Some (suc k) → HoldsPast started bound (NoneLost x g (routing.next r)) n ms
+-- from a bound on each router at a distance but 0 chooses its next hop so
+abbrev pub AreChosen : Join → (g bound : ℕ) → (ℕ → ℕ) → Routing → Network → List Move → Type 0
+AreChosen x g bound started routing n ms =
+    (r k : ℕ) → routing.distance r ≡ Some (suc k) → HoldsPast started bound (IsChosen x g (routing.next r)) n ms
 
 pub record AreRouted (x : Join) (g d late bound : ℕ) (started : ℕ → ℕ) (t : Traffic) (came : Arrivals) (lans : List Lan) (routing : Routing)
     (n : Network) (ms : List Move) : Type 0 where
   pub few : d < most_late_hello
   pub meet : AllByRecursion (LanMeets d late bound started t came n ms) lans
   pub lead : RoutesLead x g lans routing n ms
-  pub unlost : NoneLostOn x g bound started routing n ms
+  pub chosen : AreChosen x g bound started routing n ms
 
 -- ---- there is a way
 

@@ -3,7 +3,7 @@ use Rattle.std.{specs.Prelude.{None, Option, Some, [], suc, zero, ℕ, ◌∷◌
 use Rattle.pim_model.{specs.Network.network_ran}
 use Rattle.law_streams.{specs.InTimeJoins.IsHeld}
 use Rattle.pim_runs.{specs.{InTime.started, ServedChain.asked_group}}
-use Rattle.law_converges.{specs.{CarriedNetwork.HopOn, CarriedNetworkRun.{before, bound, farther_on_high, high_lan, lag, limit, moves, plan, rp_on_high, soon, source_there, star, traffic}, CarriedWays.{pair_on, root_of}, CarriedWaysRun.{its_hop, to_host}, ComesOnce.AreServedOnce, Past.HoldsPastOn, RoutedWays.PassesDown, RoutesToRp.{AllCanJoin, HasWayUp, NoneLostOn, RoutesLead, Routing, WantsFrom, hops_up}}}
+use Rattle.law_converges.{specs.{CarriedNetwork.HopOn, CarriedNetworkRun.{before, bound, farther_on_high, high_lan, lag, limit, moves, plan, rp_on_high, soon, source_there, star, traffic}, CarriedWays.{pair_on, root_of}, CarriedWaysRun.{its_hop, to_host}, ComesOnce.AreServedOnce, Past.HoldsPastOn, RoutedWays.PassesDown, RoutesToRp.{AllCanJoin, AreChosen, HasWayUp, RoutesLead, Routing, WantsFrom, hops_up}}}
 
 -- the RP as the next hop of the second router
 abbrev pub farther_hop : HopOn
@@ -23,11 +23,11 @@ hops_away (suc (suc (suc r))) = None
 abbrev pub routing : Routing
 routing = record { next = next_hop; distance = hops_away }
 
--- The routes lead to the RP, from the bound on no assert of the group is lost there, and each router can join.
+-- The routes lead to the RP, from the bound on they name it, and no assert of the group is lost there, and each router can join.
 abbrev pub RoutesLeadOnPlan : Type 0
 RoutesLeadOnPlan =
     RoutesLead star asked_group plan.lans routing before moves
-    × NoneLostOn star asked_group bound started routing before moves
+    × AreChosen star asked_group bound started routing before moves
     × AllCanJoin star asked_group traffic routing before moves
 
 -- So the RP is the one next hop of the second router's way, and holds what it joins at the end: it wants the group from when what was sent

@@ -1,11 +1,11 @@
 -- Where no better Assert comes, no assert is lost any more, and where no Prune(S,G,rpt) comes the source is pruned no more: a known time
 -- later (RFC 7761, 4.5.3, 4.6.1, 4.6.2, 4.6.3 and 4.11).
 use Rattle.std.{specs.{Option.option_map_or, Prelude.{Bool, List, Option, Some, [], false, nat_le, not, true, ℕ, ◌&&◌, ◌+◌, ◌||◌, ◌∷◌, ◌≡◌, ◌≤◌}}}
-use Rattle.pim_types.{specs.{Keys.rpt_key, declared.{event.Event.Event, fact.{AssertMetric.AssertMetric, AssertRow.AssertRow, DownstreamRow.DownstreamRow, Key.Key}}}}
-use Rattle.pim_model.{specs.{Asserts.{is_acceptable, is_of_tree, is_tracking_at, theirs_of}, Cause.done_as, Network.{Move, Network, Station, event_of, station_at}, Sets.{is_loser, prunes}, State.State, Step.{state_after, step}, Tables.row_at, declared.accepted.Accepted.Accepted}}
+use Rattle.pim_types.{specs.{Keys.rpt_key, declared.{event.Event.Event, fact.{AssertRow.AssertRow, DownstreamRow.DownstreamRow, Key.Key}}}}
+use Rattle.pim_model.{specs.{Asserts.theirs_of, Cause.done_as, Network.{Move, Network, Station, event_of, station_at}, Sets.{is_loser, prunes}, State.State, Step.{state_after, step}, Tables.row_at, declared.accepted.Accepted.Accepted}}
 use Rattle.law_settled.{specs.Ready.IsSettled}
 use Rattle.law_streams.{specs.Copies.happens}
-use Rattle.law_converges.{specs.{Carried.EachMove, LinkAsserts.gives_way, LinkDr.Member, LinkLosers.reads_assert, LinkRpt.is_pruned_by}}
+use Rattle.law_converges.{specs.{Carried.EachMove, LinkAsserts.loses_to, LinkDr.Member, LinkLosers.reads_assert, LinkRpt.is_pruned_by}}
 
 -- ---- at one router
 
@@ -13,13 +13,6 @@ use Rattle.law_converges.{specs.{Carried.EachMove, LinkAsserts.gives_way, LinkDr
 abbrev pub AreNone : (State → Option Accepted → Bool) → State → List Event → Type 0
 AreNone test s [] = Unit {0}
 AreNone test s (e ∷ es) = (test s (done_as (happens s e)) ≡ false) × AreNone test (step s e).state es
-
--- A metric by which a machine loses, or has lost for longer. In NoInfo it is acceptable, which is better than what the router would assert
--- itself, of (S,G) has RPTbit clear, and AssertTrackingDesired holds. A winner gives way to what is better than what it won with.
-abbrev pub loses_to : State → Key → AssertMetric → Bool
-loses_to s k theirs =
-    option_map_or (λ (r : AssertRow). gives_way s k r theirs) (row_at s.asserts k)
-    (is_acceptable s k theirs && (is_of_tree k theirs && is_tracking_at s k))
 
 -- an Assert by which the machine of a key loses
 abbrev pub hears_better : Key → State → Option Accepted → Bool

@@ -5,6 +5,7 @@ ghost use Rattle.law_converges.specs.LinkAsserts.{GivesWayToAssert, OneWinnerIsL
 ghost use Rattle.law_converges.specs.LinkLosers.{EventKeepsLoss, LoserComesToStay, LoserStaysLoser};
 ghost use Rattle.law_converges.specs.Unheard.{LostAssertEnds};
 ghost use Rattle.law_converges.specs.OneSender.{AtMostOneComesToSend, AtMostOneSends, LoserSendsNone};
+ghost use Rattle.law_converges.specs.OneSenderIsLeft.{OneOfAllIsLeft, OneSenderIsLeft, OtherComesToLose};
 ghost use Rattle.law_converges.specs.TwoWinners.{OneWinnerGoes};
 
 /// A router that gives way to an Assert has lost the assert to it until 180 s after its present time, or has no assert any
@@ -90,6 +91,29 @@ pub fn at_most_one_sends()
 /// So it is from 2 d after the winner's Assert Timer expires on, whatever the other one was before.
 pub fn at_most_one_comes_to_send()
     ensures { AtMostOneComesToSend }
+{}
+
+/// Across a link: of two routers that both send a source's packets there, that with the worse metric has lost the assert to the other one, without
+/// end, from a bound on. Where a packet comes to one of both that it sends there itself, and it has no assert, the bound is d after the event if
+/// that is the one with the better metric, and 2 d if it is the other one; where one of both is the winner, 2 d after its Assert Timer expires, or
+/// 3 d, whatever the other one has. All that is sent on the link comes to all of it within d, which is below 1500 ms, in order, and no timer is more
+/// than d late. Whenever an Assert of one of both comes to the other one, that hears it and has room; the one with the better metric could assert,
+/// and hasn't lost; the other one, where it has no assert, tracks it. From its first Assert on the one with the better metric stays the winner, and
+/// nothing ends sooner what the other one has lost.
+pub fn other_comes_to_lose()
+    ensures { OtherComesToLose }
+{}
+
+/// So that one sends none of these packets on the link from the bound on, and at most one of both does, where the link is no RPF interface of it,
+/// as `AtMostOneSends` says.
+pub fn one_sender_is_left()
+    ensures { OneSenderIsLeft }
+{}
+
+/// Of any number of routers that send a source's packets to a link, of each of which and that with the best metric this holds, none but that one
+/// sends them there, past the bound, and that at most one copy for each packet that comes to it: as `NetworkSettles` says of a link's assert.
+pub fn one_of_all_is_left()
+    ensures { OneOfAllIsLeft }
 {}
 
 /// From the end of its Assert Timer on a lost assert is over, while no Assert comes by which its machine loses, or has lost for longer:

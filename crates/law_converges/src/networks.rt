@@ -1,6 +1,7 @@
 //! All links and all Joins of a network at once.
 
 ghost use Rattle.law_converges.specs.CarriedNetwork.{CarriedNetworkSettles};
+ghost use Rattle.law_converges.specs.NetworkConverges.{NetworkConverges};
 ghost use Rattle.law_converges.specs.Settles.{NetworkSettles};
 
 /// However many links, routers, groups, Joins, ways, asserts and moves there are: from a bound on, whatever was before and
@@ -23,4 +24,13 @@ pub fn network_settles()
 /// it has heard. To begin with no frame is under way.
 pub fn carried_network_settles()
     ensures { CarriedNetworkSettles }
+{}
+
+/// A network converges: of any number of routers, links, members and moves, with all that these laws ask for at once. From the bound
+/// on it has settled, as `CarriedNetworkSettles` says; from the limit on each of the members' links is served, as
+/// `EachMemberIsServed` says: each packet that is brought to the RP is there in exactly one frame; and from when what was asked
+/// before is over, and a way of Joins is, no link is brought a packet but for a host that asked within a known time, or for a
+/// router on the source's link, as `LinksComeToLeadToHosts` says.
+pub fn network_converges()
+    ensures { NetworkConverges }
 {}

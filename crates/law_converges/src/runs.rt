@@ -1,11 +1,13 @@
 //! Networks that meet the premises of the laws, computed by the kernel.
 ghost use Rattle.law_converges.specs.AloneByAssertRun.{WinnerAloneOnPlan};
+ghost use Rattle.law_converges.specs.AskedByMembersRun.{LineIsAsked, LineLeadsToHost, PairComesToLeadToHost, PairIsAsked, PlanComesToLeadToHosts, PlanIsAsked};
 ghost use Rattle.law_converges.specs.AssertingRun.{ClaimIsWorse, NearerAsserts, PacketIsDuplicate};
 ghost use Rattle.law_converges.specs.CarriedNetworkRun.{OverrideComesInOrder, PlanIsQuiet, PlanSettles, PruneHasNoEffect};
 ghost use Rattle.law_converges.specs.CarriedWaysRun.{PlanBringsNothingElse, PlanIsOpen, PlanServesOnce};
 ghost use Rattle.law_converges.specs.ComesOnceRun.{ChainForwards, ChainServesOnce};
 ghost use Rattle.law_converges.specs.EachMemberRun.{BothAreReached, BothAreServed, NothingElseComesToBoth};
 ghost use Rattle.law_converges.specs.JoinedWaysRun.{ChainComesInTime, ChainComesToBeJoined, ChainPassesOnce};
+ghost use Rattle.law_converges.specs.JoinsAskedRun.{JoinIsPassedOn, ReportIsJoined};
 ghost use Rattle.law_converges.specs.LeftGroupRun.{SilentGroupEnds};
 ghost use Rattle.law_converges.specs.LeftLinksRun.{HostLeaves, HostStays};
 ghost use Rattle.law_converges.specs.LinkAssertsRun.{FartherLoses, NearerAnswers};
@@ -15,10 +17,15 @@ ghost use Rattle.law_converges.specs.LinkLosersRun.{FartherComesToLose, FartherS
 ghost use Rattle.law_converges.specs.LinkMembersRun.{HostAnswersInTime, HostComesToBeKnown, HostStaysKnown};
 ghost use Rattle.law_converges.specs.LinkQuerierRun.{OneComesToQuery, QueriesComeInTime};
 ghost use Rattle.law_converges.specs.MemberLinksRun.{BothAreWanted, NoOthersSend, ServedPlanIsQuiet};
+ghost use Rattle.law_converges.specs.OneSenderIsLeftRun.{BothAssert, BothSend, FartherIsSilent};
 ghost use Rattle.law_converges.specs.OneSenderRun.{FartherSendsNone};
+ghost use Rattle.law_converges.specs.NetworkConvergesRun.{PlanHasConverged, PlanIsConverging};
 ghost use Rattle.law_converges.specs.NextHopRun.{OtherTakesOver, RouterTurns};
 ghost use Rattle.law_converges.specs.RoutesToRpRun.{FartherIsHeldToRp, NearerIsServedOnce, RoutesLeadOnPlan};
+ghost use Rattle.law_converges.specs.SourceActiveRun.{ActiveComes, ActiveIsNotSentBack, ActiveMakesKnown, ActiveRegisters, OtherActivesAreIgnored, OtherActivesCome, SetLeavesActive};
+ghost use Rattle.law_converges.specs.SourceMemberRun.{SentComesOnce, SourceIsReached, SourceMemberIsServed};
 ghost use Rattle.law_converges.specs.TwoWinnersRun.{BothWinAtFirst, FartherGoes};
+ghost use Rattle.law_converges.specs.WinnerHopRun.{FirstYields, HostIsReached, HostIsServed, TwoLansAreQuiet, WinnerIsRpf};
 
 /// The first router of the chain turns from one next hop to another.
 pub fn router_turns()
@@ -187,6 +194,31 @@ pub fn nearer_is_served_once()
     ensures { NearerIsServedOnce }
 {}
 
+/// A host's link, and the LAN of the RP, which has won the assert of the group there.
+pub fn two_lans_are_quiet()
+    ensures { TwoLansAreQuiet }
+{}
+
+/// The router of the host's link gives way to the RP's Asserts.
+pub fn first_yields()
+    ensures { FirstYields }
+{}
+
+/// So the RP is RPF'(\*,G), though the route names another router.
+pub fn winner_is_rpf()
+    ensures { WinnerIsRpf }
+{}
+
+/// Over the winner of the assert the routes lead to the RP.
+pub fn host_is_reached()
+    ensures { HostIsReached }
+{}
+
+/// So the host is served over it.
+pub fn host_is_served()
+    ensures { HostIsServed }
+{}
+
 /// From the bound on the RP and the winner of the assert forward the source's packets, and no other router sends them on the LANs.
 pub fn plan_is_open()
     ensures { PlanIsOpen }
@@ -220,6 +252,21 @@ pub fn both_win_at_first()
 /// So one of them goes by 200 ms after the Assert Timer of the nearer one expires.
 pub fn farther_goes()
     ensures { FartherGoes }
+{}
+
+/// Two routers send a packet of the group on the link of a router that joined over both, and hear each other's; neither has an assert.
+pub fn both_send()
+    ensures { BothSend }
+{}
+
+/// Each asserts, and the nearer one answers the Assert of the farther one.
+pub fn both_assert()
+    ensures { BothAssert }
+{}
+
+/// So 100 ms after the nearer one's first Assert the farther one has lost, and sends none of the next packet there.
+pub fn farther_is_silent()
+    ensures { FartherIsSilent }
 {}
 
 /// The assert's loser hears the packet on the other LAN, and the winner alone sends it on the host's.
@@ -256,4 +303,108 @@ pub fn both_are_served()
 /// And nothing else of the source comes to either.
 pub fn nothing_else_comes_to_both()
     ensures { NothingElseComesToBoth }
+{}
+
+/// An RP is told of a source by a peer's Source-Active message (MSDP), and may learn it.
+pub fn active_comes()
+    ensures { ActiveComes }
+{}
+
+/// So the message is taken as a Register of its source.
+pub fn active_registers()
+    ensures { ActiveRegisters }
+{}
+
+/// And the RP knows the source for 210 s.
+pub fn active_makes_known()
+    ensures { ActiveMakesKnown }
+{}
+
+/// It goes to none of a set of RPs that share the RP's address.
+pub fn set_leaves_active()
+    ensures { SetLeavesActive }
+{}
+
+/// Nor does the RP tell a peer of the source as its own.
+pub fn active_is_not_sent_back()
+    ensures { ActiveIsNotSentBack }
+{}
+
+/// Others come to an address that isn't the router's, of a group of the link, and to one of its own that isn't RP(G).
+pub fn other_actives_come()
+    ensures { OtherActivesCome }
+{}
+
+/// So the first two are ignored, and the third changes nothing of the state.
+pub fn other_actives_are_ignored()
+    ensures { OtherActivesAreIgnored }
+{}
+
+/// A host's report asks the first router of the chain for the group, and so this joins it over the second one.
+pub fn report_is_joined()
+    ensures { ReportIsJoined }
+{}
+
+/// That Join asks the second router for the group, and so this joins it over the RP.
+pub fn join_is_passed_on()
+    ensures { JoinIsPassedOn }
+{}
+
+/// A host of a source-specific group behind a router whose route leads to the source over another one, which has the source on a
+/// link: the LAN between both carries what is sent there, and the first one serves the host.
+pub fn source_is_reached()
+    ensures { SourceIsReached }
+{}
+
+/// So the host is served on the source's own tree.
+pub fn source_member_is_served()
+    ensures { SourceMemberIsServed }
+{}
+
+/// As by a packet that the source sends: it is on the host's link in exactly one frame.
+pub fn sent_comes_once()
+    ensures { SentComesOnce }
+{}
+
+/// From the beginning of three routers in a line on a host asks the first one, the Joins go up to the RP, and a packet that a Register
+/// brings there comes to each of the three links.
+pub fn line_is_asked()
+    ensures { LineIsAsked }
+{}
+
+/// So from each of these links a way of no more than three Joins leads to a host.
+pub fn line_leads_to_host()
+    ensures { LineLeadsToHost }
+{}
+
+/// A host's router and the RP go on for eleven minutes, in which the host asks again each minute. Then a packet comes to both links,
+/// later than twice 260 s and a minute.
+pub fn pair_is_asked()
+    ensures { PairIsAsked }
+{}
+
+/// So from each of them a way of no more than two Joins leads to a host, which has asked since the beginning.
+pub fn pair_comes_to_lead_to_host()
+    ensures { PairComesToLeadToHost }
+{}
+
+/// On the two LANs each Join is sent by a router that is farther from the RP than the one that it comes to, and what was asked before
+/// the moves is over after 351 s.
+pub fn plan_is_asked()
+    ensures { PlanIsAsked }
+{}
+
+/// So from 883.4 s on, if moves went on until then, their packets would go only to links from which a way of Joins leads to a host.
+pub fn plan_comes_to_lead_to_hosts()
+    ensures { PlanComesToLeadToHosts }
+{}
+
+/// The two LANs, the RP and both receivers meet all that `NetworkConverges` asks for.
+pub fn plan_is_converging()
+    ensures { PlanIsConverging }
+{}
+
+/// So this network has converged.
+pub fn plan_has_converged()
+    ensures { PlanHasConverged }
 {}

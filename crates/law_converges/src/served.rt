@@ -2,10 +2,12 @@
 //! nobody wants, or that all have left.
 
 ghost use Rattle.law_converges.specs.AloneOnLink.{OneRouterSends};
+ghost use Rattle.law_converges.specs.AskedByMembers.{CarriedJoinsAreSent, EachLinkLeadsToHosts, EachWayIsShort, LinksComeToLeadToHosts};
 ghost use Rattle.law_converges.specs.EachMember.{EachMemberIsServed};
 ghost use Rattle.law_converges.specs.LeftLinks.{LeftLinkIsQuiet, OnlyWantedIsBrought};
 ghost use Rattle.law_converges.specs.MemberLinks.{MemberIsWanted};
 ghost use Rattle.law_converges.specs.SilentRouters.{OnlyWayInIsTaken, UnaskedSendsNone};
+ghost use Rattle.law_converges.specs.SourceWays.{EachSourceMemberIsServed};
 
 /// Who asks is wanted: in a network that settles the router that serves a link with a member of a group wants the group
 /// (JoinDesired), from the bound on. This is the link's DR, that with the highest priority, and of these with the highest
@@ -44,8 +46,10 @@ pub fn one_router_sends()
 ///
 /// That no assert is lost and no source pruned on the way follows of what is sent: no Assert of the group, or of the source, by which
 /// the router loses, and no Prune(S,G,rpt) comes where the packets go, and what was before is over by the bound; or the router wins
-/// the group's assert there. After an Assert by which it doesn't lose a router passes the packets on. Other premises are those of `EveryWantIsHeldToRp`; whoever is on a link is one of its routers; and of the routers of the
-/// way, from the limit on, that they have room for the source, and that its packets come on no other tree.
+/// the group's assert there. After an Assert by which it doesn't lose a router passes the packets on. A router that gives way to the
+/// winner of the group's assert on the LAN of its route has that one as its next hop (`LoserJoinsWinner`). Other premises are those of
+/// `EveryWantIsHeldToRp`; whoever is on a link is one of its routers; and of the routers of the way, from the limit on, that they
+/// have room for the source, and that its packets come on no other tree.
 pub fn each_member_is_served()
     ensures { EachMemberIsServed }
 {}
@@ -63,4 +67,40 @@ pub fn only_wanted_is_brought()
 /// So none of a source's packets comes to a link, from T after the bound on, where from the bound on nobody asks a router for them.
 pub fn left_link_is_quiet()
     ensures { LeftLinkIsQuiet }
+{}
+
+/// And to no other link: in a network in which nothing had happened, each of a source's packets that a move brings to a link is a copy
+/// that a router of the link puts there, and over some number k of Joins a way leads from it to a host: the router was asked on the
+/// link by a Join that another router of the link had sent, since it was asked on a link of its own, and so on, until a host's report;
+/// or until a router with the source on a link of its own, which joins since it may register the source. Each Join of the way came within
+/// d of when it was sent and was heard for no longer than T, as the report was, and nobody's time went on by more than a tick at once: so
+/// the packet is less than T + k * (T + d + tick) after the report. T is as in `OnlyWantedIsBrought`. Each Join/Prune that comes to a
+/// router is a frame that a router of the network sent. It holds of any routes, whatever is lost, repeated or out of order.
+pub fn each_link_leads_to_hosts()
+    ensures { EachLinkLeadsToHosts }
+{}
+
+/// Where each Join(*,G) that comes is of a router farther from the RP than the one that it comes to, and each Join(S,G) of one farther
+/// from the source, by a distance that a premise gives, the way is no longer than the two greatest distances and one.
+pub fn each_way_is_short()
+    ensures { EachWayIsShort }
+{}
+
+/// So it is in any network, from when what its routers were asked before the moves is over, and as long after that as such a way
+/// takes. None of the frames of before comes as a Join/Prune any more.
+pub fn links_come_to_lead_to_hosts()
+    ensures { LinksComeToLeadToHosts }
+{}
+
+/// What these ask of each Join/Prune follows where LANs carry all that is sent on them, in order and within d, as a quiet plan has it
+/// (`CarriedNetworkSettles`), and each Join/Prune comes to one of their routers on its LAN.
+pub fn carried_joins_are_sent()
+    ensures { CarriedJoinsAreSent }
+{}
+
+/// Each member of a source-specific group is served, once: a router that serves a host's interface, as the DR or as the winner of
+/// the source's assert, and knows that the host asks for the source, wants the source. So where the routes lead to the source, as
+/// `EveryWantOfSourceIsServedOnce` asks, each packet of the source comes to the host's link exactly once.
+pub fn each_source_member_is_served()
+    ensures { EachSourceMemberIsServed }
 {}

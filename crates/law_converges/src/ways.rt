@@ -3,6 +3,7 @@
 ghost use Rattle.law_converges.specs.AloneByAssert.{WinnerIsAlone};
 ghost use Rattle.law_converges.specs.CarriedWays.{CarriedNetworkBringsNothingElse, CarriedNetworkServesOnce};
 ghost use Rattle.law_converges.specs.ComesOnce.{EachPacketComesOnce, FrameComesOfOne, NothingElseComes};
+ghost use Rattle.law_converges.specs.SourceWays.{EveryWantOfSourceIsServedOnce, SentComesOnPath};
 
 /// Down a way of any length, from when its routers forward a source's packets on: of each packet that an event brings to the
 /// way's top router, its root, on a tree or in a Register, exactly one frame on the last link comes. The root puts one copy on
@@ -48,4 +49,19 @@ pub fn carried_network_serves_once()
 /// `NothingElseComes` asks.
 pub fn carried_network_brings_nothing_else()
     ensures { CarriedNetworkBringsNothingElse }
+{}
+
+/// Down the source's own tree, too: in a network that settles, over whose LANs the routes lead to the source without a loop, each
+/// router that wants the source from a time on has a way of next hops to it, which come to hold the source. From then on each packet
+/// that comes to the way's last next hop on the way to the source comes exactly once to the link to which the router passes the
+/// packets on, and nothing else of the source where no other router sends its packets on the links of the way. Asked is, besides,
+/// that each router between takes the packets: the source isn't its own, there is room, and SPTbit is set, or the first packet may
+/// set it, as it always may for a source-specific group; and that it has one interface on the LAN below.
+pub fn every_want_of_source_is_served_once()
+    ensures { EveryWantOfSourceIsServedOnce }
+{}
+
+/// Each packet that a source sends on its link comes so to a router there that has joined routers on another interface.
+pub fn sent_comes_on_path()
+    ensures { SentComesOnPath }
 {}

@@ -1,8 +1,8 @@
 -- What the router takes of its own messages.
-use Rattle.std.{proofs.{Common.{◌≡◌, ℕ, ◌≤◌, Bool, true, false, nat_le, List, Result, Ok, Err, refl, ap, ◌∙◌, arith}, lemmas.Bool.Decides.nat_tests}, specs.Prelude.if◌then◌else◌}
+use Rattle.std.{proofs.{Common.{◌≡◌, ◌≤◌, Bool, true, false, nat_le, Result, Ok, Err, refl, ap, ◌∙◌, arith}, lemmas.Bool.Decides.nat_tests}, specs.Prelude.if◌then◌else◌}
 use Rattle.pim_ip.{specs.declared.refusal.Refusal.Refusal}
 use Rattle.pim_bootstrap.{specs.Bootstraps.{Bootstrap, bootstrap_reading}}
-use Rattle.pim_bsr.{specs.{Sound.{IsSound, IsSoundTable, OwnSoundStays}, Standing.{OwnIsTaken, own_read, own_taken, with_own}, Table.{Known, kept_count, room, room_beside, with_message}}, proofs.Sounder.learned_sound}
+use Rattle.pim_bsr.{specs.{Sound.{IsSound, IsSoundTable, OwnSoundStays}, Standing.{OwnIsTaken, own_read, own_taken, with_own}, Table.{kept_count, room, room_beside, with_message}}, proofs.Sounder.learned_sound}
 
 pub own_is_taken : OwnIsTaken
 unfolding own_taken with_own

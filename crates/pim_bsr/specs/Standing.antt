@@ -1,6 +1,6 @@
 -- What a candidate BSR beside the front asks of it (RFC 5059, section 3.1): a message that came, before its BSR is weighed, and
 -- the messages that the router itself originates.
-use Rattle.std.{specs.Prelude.{◌≡◌, ℕ, Bool, ◌+◌, ◌≤◌, nat_le, true, if◌then◌else◌, List, filter, map, Option, Some, None, Result, Ok, Err}}
+use Rattle.std.{specs.Prelude.{◌≡◌, ℕ, ◌+◌, ◌≤◌, nat_le, true, if◌then◌else◌, List, filter, map, Option, Some, None, Result, Ok, Err}}
 use Rattle.pim_ip.{specs.{Addr.addr, Ipv4.{Packet, ipv4_reading}, declared.refusal.Refusal.Refusal}}
 use Rattle.pim_types.{specs.declared.outcome.Emission.Emission}
 use Rattle.pim_model.{specs.Tables.below}

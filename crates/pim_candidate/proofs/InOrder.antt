@@ -1,9 +1,9 @@
 -- What a candidacy holds of RPs stays in order.
-use Rattle.std.{proofs.Common.{◌≡◌, ℕ, ◌^◌, ◌<◌, Bool, true, false, nat_le, min, List, Option, Some, None, Result, Ok, Err, refl, arith}, specs.Prelude.if◌then◌else◌}
+use Rattle.std.{proofs.Common.{ℕ, ◌^◌, ◌<◌, Bool, true, false, nat_le, List, Option, Some, None, Result, Ok, Err, arith}, specs.Prelude.if◌then◌else◌}
 use Rattle.pim_ip.{specs.{Ipv4.{Packet, ipv4_reading}, declared.{addr.Addr.Addr, refusal.Refusal.Refusal}}}
 use Rattle.pim_bootstrap.{specs.Advertisements.{Advertisement, advertisement_reading}}
-use Rattle.pim_bsr.{specs.{Hearing.{Around, Hearing}, Laws.is_taken, Standing.{Arrival, arrival_in, arrival_taken, why_arrival}, Table.{Known, at_time}, declared.heard.{Heard.Heard, Why.Why}}}
-use Rattle.pim_candidate.{specs.{Candidacy.{Candidacy, Left, StandingRp, advertised_read, advertised_to, advertisement_bytes, advertises_later, advertising_by, advertising_passed, arrived, candidacy_heard, done, elected_by, election_passed, expired_as, expired_done, followed, heard_by, holdtime, is_advertised, is_advertisement, is_itself, most_held, not_advertised, originates, quiet, sender_of, set_passed, set_passed_by, tells, tells_by, time_passed, told_itself, told_to, unicast_by, unicast_heard, unicast_packet, unicast_reading, untold, weighed, weighed_if, yields}, Advertising.sent, CandidacyLaws.{HoldsInOrder, OrderStays}, Election.{expired, heard, is_elected}, Sound.IsSoundSet, declared.{candidacy.{CandidacyHeard.CandidacyHeard, StandingBsr.StandingBsr}, election.{Action.Action, Election.Election, Outcome.Outcome, Role.Role}}}, proofs.Sound.{empty_is_sound, sound_in_time, sound_stays}}
+use Rattle.pim_bsr.{specs.{Hearing.Around, Laws.is_taken, Standing.{Arrival, arrival_in, arrival_taken, why_arrival}, Table.{Known, at_time}, declared.heard.{Heard.Heard, Why.Why}}}
+use Rattle.pim_candidate.{specs.{Candidacy.{Candidacy, Left, StandingRp, advertised_read, advertised_to, advertisement_bytes, advertises_later, advertising_by, advertising_passed, arrived, candidacy_heard, done, elected_by, election_passed, expired_as, expired_done, followed, heard_by, holdtime, is_advertised, is_advertisement, is_itself, most_held, not_advertised, originates, quiet, sender_of, set_passed, set_passed_by, tells, tells_by, time_passed, told_itself, told_to, unicast_by, unicast_heard, unicast_packet, unicast_reading, untold, weighed, weighed_if, yields}, Advertising.sent, CandidacyLaws.OrderStays, Election.{expired, heard, is_elected}, Sound.IsSoundSet, declared.{candidacy.{CandidacyHeard.CandidacyHeard, StandingBsr.StandingBsr}, election.{Action.Action, Election.Election, Outcome.Outcome}}}, proofs.Sound.{empty_is_sound, sound_in_time, sound_stays}}
 
 -- ---- packets on links
 

@@ -1,6 +1,6 @@
 -- Messages that are sent fit into packets.
-use Rattle.std.{proofs.{Common.{◌≡◌, ℕ, ◌+◌, ◌*◌, ◌≤◌, ◌<◌, ◌^◌, Bool, true, nat_le, nat_lt, ◌&&◌, List, [], ◌∷◌, ◌++◌, length, map, drop, get_or, refl, sym, ap, ◌∙◌, arith}, lemmas.{Bool.Decides.nat_tests, List.Elements.{All-cons, All-head, All-map, All-nil, All-tail, All-weaker}}}, specs.{Global.Vec, List.{All, flat_map}}}
-use Rattle.pim_ip.{specs.{declared.addr.Prefix.Prefix, Checksum.with_checksum}}
+use Rattle.std.{proofs.{Common.{◌≡◌, ℕ, ◌+◌, ◌*◌, ◌≤◌, ◌<◌, ◌^◌, true, nat_le, nat_lt, List, [], ◌∷◌, length, map, drop, get_or, refl, ap, arith}, lemmas.{Bool.Decides.nat_tests, List.Elements.{All-cons, All-head, All-map, All-nil, All-tail}}}, specs.{Global.Vec, List.{All, flat_map}}}
+use Rattle.pim_ip.{specs.Checksum.with_checksum}
 use Rattle.pim_wire.{specs.Encoded.pim_text}
 use Rattle.pim_bootstrap.{specs.{declared.{advertisement.AdvertisedRange.AdvertisedRange, fragments.{BootstrapHead.BootstrapHead, GroupRange.GroupRange}}, Advertisements.{advertised_text, advertisement_text}, Bootstraps.{Bootstrap, bootstrap_text}, Fragments.{Fits, IsCounted, fragments}, FragmentTexts.{IsWritable, range_rps}}, proofs.Packed.fragments_fit}
 use Rattle.pim_bsr.{proofs.Lists.{and_second, length-map_of}}

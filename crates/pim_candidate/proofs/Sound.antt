@@ -1,10 +1,10 @@
 -- What an elected BSR holds is in order, and so is what it says.
-use Rattle.std.{proofs.{Common.{◌≡◌, ℕ, zero, suc, ◌+◌, ◌-◌, ◌*◌, ◌/◌, ◌^◌, ◌<◌, ◌≤◌, Bool, true, false, cond, not, nat_lt, ◌&&◌, ◌||◌, ◌==◌, List, [], ◌∷◌, ◌++◌, filter, flat_map, fold, length, map, get_or, refl, sym, ap, subst, ◌∙◌, arith}, Math.Nat.mul-div_cancel, lemmas.{Bool.Decides.nat_tests, Nat.pow_pos, List.{length-append, map-append, Elements.{All-append, All-map}}}}, specs.{List.{All, list_all, list_any}, Prelude.if◌then◌else◌}}
+use Rattle.std.{proofs.{Common.{◌≡◌, ℕ, ◌-◌, ◌*◌, ◌/◌, ◌^◌, ◌<◌, Bool, true, false, not, nat_lt, ◌&&◌, ◌||◌, ◌==◌, List, [], ◌∷◌, ◌++◌, filter, fold, length, map, get_or, refl, sym, ap, ◌∙◌, arith}, Math.Nat.mul-div_cancel, lemmas.{Bool.Decides.nat_tests, Nat.pow_pos, List.{length-append, map-append, Elements.{All-append, All-map}}}}, specs.{List.{All, list_all, list_any}, Prelude.if◌then◌else◌}}
 use Rattle.pim_ip.{specs.{Addr.addr, declared.addr.Prefix.Prefix}}
 use Rattle.pim_model.{specs.{Candidates.masked, Limits.{are_distinct, same_prefix}}}
-use Rattle.pim_bootstrap.{specs.{declared.{advertisement.AdvertisedRange.AdvertisedRange, bootstrap.CandidateRp.CandidateRp}, Advertisements.{Advertisement, advertised_prefix}, Fragments.{IsCounted, RangeRps}}}
+use Rattle.pim_bootstrap.{specs.{declared.{advertisement.AdvertisedRange.AdvertisedRange, bootstrap.CandidateRp.CandidateRp}, Advertisements.advertised_prefix, Fragments.{IsCounted, RangeRps}}}
 use Rattle.pim_bsr.{proofs.Lists.{and_both, and_first, and_second, both_pass, fewer, length-map_of, neither, not_false, not_true, or_first, or_second, passes_other, some_pass}}
-use Rattle.pim_candidate.{specs.{RpSet.{RpSet, advertised, advertised_rp, empty, firsts, gone_after, gone_from, gone_prefix, has_rp, held_after, held_from, held_prefix, is_lost, is_mapping, is_of, passed, replaced, runs, said, said_gone, said_range, said_rp, stays_gone, with_first, with_range, with_rp, without}, SaySame.{HasApart, are_apart, rps_apart, taken_prefix}, Sound.{AllLearnTheSet, EmptyIsSound, IsSoundSet, SoundInTime, SoundStays, held_apart, is_alone, is_masked, is_masked_gone}, declared.rp_set.{Gone.Gone, Held.Held}}, proofs.SaySame.fragments_say_same}
+use Rattle.pim_candidate.{specs.{RpSet.{RpSet, advertised_rp, firsts, gone_after, gone_from, gone_prefix, has_rp, held_after, held_from, held_prefix, is_lost, is_mapping, is_of, replaced, runs, said, said_gone, said_range, said_rp, stays_gone, with_first, with_range, with_rp, without}, SaySame.{HasApart, are_apart, rps_apart, taken_prefix}, Sound.{AllLearnTheSet, EmptyIsSound, IsSoundSet, SoundInTime, SoundStays, held_apart, is_alone, is_masked, is_masked_gone}, declared.rp_set.{Gone.Gone, Held.Held}}, proofs.SaySame.fragments_say_same}
 
 -- ---- prefixes
 

@@ -2,7 +2,7 @@
 use Rattle.std.{proofs.Common.{◌≡◌, ℕ, List, [], ◌++◌, append-nil, Option, None, sym, ap, ◌∙◌}}
 use Rattle.pim_types.{specs.declared.outcome.Emission.Emission}
 use Rattle.pim_bsr.{specs.{Hearing.{Around, Hearing, heard_frame}, Table.{Known, at_time}}}
-use Rattle.pim_candidate.{specs.{Candidacy.{Candidacy, CandidacyHearing, Left, StandingRp, advertising_by, advertising_passed, and_follows, as_front, bsr_end, bsr_of, candidacy_end, candidacy_heard, elected_by, election_passed, followed, following, heard_by, leaving, left_for_good, quiet, rp_end, set_passed, set_passed_by, sooner, time_passed, Told, told_after, untold}, CandidacyLaws.{IsAsFront, NotStandingChangesNothing}, declared.candidacy.StandingBsr.StandingBsr}}
+use Rattle.pim_candidate.{specs.{Candidacy.{Candidacy, Left, StandingRp, advertising_by, advertising_passed, and_follows, as_front, bsr_end, bsr_of, candidacy_end, candidacy_heard, elected_by, election_passed, followed, following, heard_by, leaving, left_for_good, quiet, rp_end, set_passed, set_passed_by, sooner, time_passed, Told, told_after, untold}, CandidacyLaws.NotStandingChangesNothing, declared.candidacy.StandingBsr.StandingBsr}}
 
 module _ (s : Around) (c : Candidacy) (k : Known) (no_bsr : c.bsr ≡ None) (no_rp : c.rp ≡ None) where
   follows : (draw now : ℕ) (l : Known) → followed draw now l c ≡ c

@@ -1,6 +1,6 @@
 -- A router that stands as a BSR, as an RP, or as both (RFC 5059, sections 3.1 to 3.3), beside the front that hears Bootstraps:
 -- what it does with packets, and as time passes. Times are in ms.
-use Rattle.std.{specs.{Global.Vec, List.flat_map, Prelude.{ℕ, ◌+◌, ◌%◌, ◌^◌, ◌<◌, Bool, true, false, ◌&&◌, ◌==◌, min, not, nat_le, nat_lt, if◌then◌else◌, List, [], ◌∷◌, ◌++◌, fold, length, map, option_map, Option, Some, None, Result, Ok, Err}}}
+use Rattle.std.{specs.{Global.Vec, List.flat_map, Prelude.{ℕ, ◌+◌, ◌%◌, ◌^◌, ◌<◌, Bool, false, ◌&&◌, ◌==◌, min, nat_le, nat_lt, if◌then◌else◌, List, [], ◌∷◌, ◌++◌, fold, length, map, option_map, Option, Some, None, Result, Ok, Err}}}
 use Rattle.pim_ip.{specs.{Addr.addr, Ipv4.{Packet, ipv4_reading, protocol_pim}, declared.{addr.{Addr.Addr, Prefix.Prefix}, refusal.Refusal.Refusal}}}
 use Rattle.pim_types.{specs.declared.outcome.Emission.Emission}
 use Rattle.pim_wire.{specs.Encoded.pim_type_of}

@@ -1,5 +1,5 @@
 -- What a network may count on of candidate BSRs.
-use Rattle.std.{specs.Prelude.{◌≡◌, ℕ, Bool, true, false, ◌==◌, not}}
+use Rattle.std.{specs.Prelude.{◌≡◌, ℕ, true, false, ◌==◌, not}}
 use Rattle.pim_candidate.{specs.{Election.{does, heard, is_elected}, declared.election.{Action.Action, Bsr.Bsr, Election.Election, Role.Role}}}
 
 -- A message that says the router's own address as its BSR changes nothing, and isn't sent on.

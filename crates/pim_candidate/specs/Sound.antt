@@ -1,9 +1,9 @@
 -- What holds of all that an elected BSR holds, so that routers learn by its messages just what it says.
-use Rattle.std.{specs.{List.{All, list_all, list_any}, Prelude.{◌≡◌, ℕ, ◌^◌, ◌<◌, Bool, true, false, ◌&&◌, ◌==◌, not, List, [], ◌∷◌, flat_map, fold, length, map}}}
+use Rattle.std.{specs.{List.{list_all, list_any}, Prelude.{◌≡◌, ℕ, ◌^◌, ◌<◌, Bool, true, false, ◌&&◌, ◌==◌, not, List, [], ◌∷◌, flat_map, fold, length, map}}}
 use Rattle.pim_model.{specs.{Candidates.masked, Limits.are_distinct}}
-use Rattle.pim_bootstrap.{specs.{declared.fragments.BootstrapHead.BootstrapHead, Advertisements.Advertisement, Fragments.{IsCounted, fragments, pieces_of}}}
-use Rattle.pim_bsr.{specs.{Table.{Table, masks_after, with_message}}}
-use Rattle.pim_candidate.{specs.{RpSet.{RpSet, advertised, empty, gone_prefix, has_rp, is_mapping, passed, said}, SaySame.{HasApart, are_apart, told, waits_under}, declared.rp_set.{Gone.Gone, Held.Held}}}
+use Rattle.pim_bootstrap.{specs.{declared.fragments.BootstrapHead.BootstrapHead, Advertisements.Advertisement, Fragments.{fragments, pieces_of}}}
+use Rattle.pim_bsr.{specs.Table.{Table, masks_after, with_message}}
+use Rattle.pim_candidate.{specs.{RpSet.{RpSet, advertised, empty, gone_prefix, has_rp, is_mapping, passed, said}, SaySame.{told, waits_under}, declared.rp_set.{Gone.Gone, Held.Held}}}
 
 -- bits past the mask are 0
 abbrev pub is_masked : Held → Bool

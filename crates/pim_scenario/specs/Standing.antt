@@ -36,7 +36,7 @@ pub record IsOwnAddress (router ms : Members) (a : Addr) : Type 0 where
   pub own : owns router text ≡ Some true
   pub address : IsAddressText text a
 
--- ---- the candidate BSR (3.1)
+-- ---- the candidate BSR (3.1), whose priority is 64 where none is set (4.1)
 
 abbrev pub bsr_keys : List (List ℕ)
 bsr_keys = codes "address" ∷ codes "priority" ∷ codes "hash_length" ∷ codes "limit" ∷ []
@@ -45,7 +45,7 @@ bsr_keys = codes "address" ∷ codes "priority" ∷ codes "hash_length" ∷ code
 pub record IsBsr (router ms : Members) (b : BsrText) : Type 0 where
   pub keys : has_only bsr_keys ms ≡ true
   pub address : IsOwnAddress router ms b.address
-  pub priority : number_between 0 255 0 (codes "priority") ms ≡ Some b.priority
+  pub priority : number_between 0 255 64 (codes "priority") ms ≡ Some b.priority
   pub hash_length : number_between 0 32 30 (codes "hash_length") ms ≡ Some b.hash_length
   pub limit : number_between 1 255 255 (codes "limit") ms ≡ Some b.limit
 

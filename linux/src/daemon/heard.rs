@@ -1,7 +1,9 @@
 //! What comes from other routers and from hosts: PIM and IGMP.
-use super::{Answer, Daemon, Event, Fatal, Ledger};
+use super::{Answer, Daemon, Event, Fatal, Ledger, Neighbour};
 use crate::older::Older;
-use crate::packet::{as_of_nobody, fill_registered, is_of_host, is_pim, message_of, priority_of, Packet, HELLO};
+use crate::packet::{
+    as_of_nobody, fill_registered, generation_of, is_of_host, is_pim, message_of, priority_of, Packet, HELLO,
+};
 use crate::policy::registered;
 use crate::{split, stand_in, words};
 use log::debug;
@@ -79,8 +81,16 @@ impl Daemon {
 
     /// A message that the library reads: one that came in fragments may be longer, and is taken in parts.
     pub(super) fn take_part(&mut self, number: u32, let_in: &[u8]) -> Result<(), Fatal> {
-        if let Some(packet) = Packet::read(let_in).filter(|packet| is_pim(*packet, HELLO)) {
-            self.neighbours.hellos.insert((number, packet.source()), (words::of(let_in), priority_of(packet)));
+        let hello = Packet::read(let_in).filter(|packet| is_pim(*packet, HELLO));
+        let newcomer = hello.filter(|hello| self.is_of_newcomer(number, *hello)).map(Packet::source);
+        if let Some(packet) = hello {
+            let said = Neighbour {
+                since: self.now(),
+                said: words::of(let_in),
+                priority: priority_of(packet),
+                generation: generation_of(packet),
+            };
+            self.neighbours.hellos.insert((number, packet.source()), said);
             self.neighbours.are_stale = true;
         }
         self.watch_prunes(number, let_in);
@@ -93,6 +103,7 @@ impl Daemon {
         if answer == Answer::Done {
             self.watch_older(number, let_in);
             asserted.iter().for_each(|asserted| self.watch_forwarder(number, let_in, asserted));
+            newcomer.iter().for_each(|newcomer| self.has_newcomer(number, *newcomer));
         }
         if let Answer::Refused(refusal) = answer {
             self.ports[number as usize].passed.refused += 1;

@@ -33,6 +33,7 @@ impl Daemon {
             since: it.since,
             said: it.said.clone(),
             priority: it.priority,
+            generation: it.generation,
         };
         let session = |(place, session): (&super::Place, &super::Session)| LeftSession {
             iface: place.0,
@@ -128,8 +129,8 @@ impl Daemon {
     /// The restored router goes on, and the kernel follows it. It may know what was learned of Bootstraps.
     fn go_on(&mut self, left: Left, way: Way, knows: bool) -> Result<(), Fatal> {
         let known = left.neighbours.into_iter().map(|it| {
-            let neighbour = Neighbour { since: it.since, said: it.said, priority: it.priority };
-            ((it.iface, it.address), neighbour)
+            let LeftNeighbour { iface, address, since, said, priority, generation } = it;
+            ((iface, address), Neighbour { since, said, priority, generation })
         });
         self.neighbours.known = known.collect();
         self.neighbours.are_stale = true;

@@ -645,6 +645,7 @@ mod bootstraps;
 mod candidacy;
 mod liveness;
 mod msdp;
+mod newcomers;
 mod older;
 mod overridden;
 mod reloaded;

@@ -431,6 +431,7 @@ impl Daemon {
             self.set_again();
         }
         self.repeat_hellos();
+        self.tell_newcomers();
         self.override_again();
         self.keep_sessions()?;
         self.keep_msdp()?;

@@ -150,16 +150,16 @@ impl Daemon {
             }
         }
         let hellos = std::mem::take(&mut self.neighbours.hellos);
-        for (key, (said, priority)) in hellos.into_iter().filter(|(key, _)| there.contains(key)) {
+        for (key, hello) in hellos.into_iter().filter(|(key, _)| there.contains(key)) {
             if !self.neighbours.known.contains_key(&key) {
                 self.keeping.changed();
                 self.routes_may_move();
                 if self.may_say(Kind::Neighbours, Some(key.0)) {
-                    info!("a neighbour on {}: {said}", self.name(key.0));
+                    info!("a neighbour on {}: {}", self.name(key.0), hello.said);
                 }
             }
             let since = self.neighbours.known.get(&key).map_or(now, |known| known.since);
-            self.neighbours.known.insert(key, Neighbour { since, said, priority });
+            self.neighbours.known.insert(key, Neighbour { since, ..hello });
         }
         self.watch_designated();
         Ok(())

@@ -174,8 +174,8 @@ def importer(named: str | None = None) -> str:
     path = os.pathsep.join([os.environ.get("PATH", os.defpath), *SBIN])
     found = named or os.environ.get("VIQESHORD") or own or shutil.which("viqeshord", path=path)
     if found is None:
-        raise Unreadable("there is no viqeshord, which reads FRR's configurations: docs/LINUX.md says how it is built; "
-                         "VIQESHORD in the environment names it where it isn't installed")
+        raise Unreadable("viqeshord isn't installed, which reads FRR's configurations: docs/LINUX.md says how it is "
+                         "built; VIQESHORD in the environment may name one")
     return found
 
 

@@ -462,20 +462,31 @@ RECORDS: dict[str, list[Any]] = {
 }
 
 
+def declare(library: ctypes.CDLL, begins: str, calls: dict[str, tuple[list[Any], Any]]) -> None:
+    """Tells the library what calls take behind what they are of, and what they answer."""
+    for name, (takes, answers) in calls.items():
+        call = getattr(library, begins + name)
+        call.argtypes, call.restype = [c_void_p, *takes], answers
+
+
+def declare_making(library: ctypes.CDLL, name: str, takes: list[Any]) -> None:
+    """Tells it what a call takes that makes something, behind where that is to lie and the library's number."""
+    call = getattr(library, name)
+    call.argtypes, call.restype = [POINTER(c_void_p), c_uint32, *takes], c_uint32
+
+
 @cache
 def load(path: str) -> ctypes.CDLL:
     """The library, with what its calls take and answer. Others of the program's threads go on while it works."""
     library = ctypes.CDLL(path)
     check_version(library, path)
-    for name, (takes, answers) in CALLS.items():
-        call = getattr(library, f"viq_{name}")
-        call.argtypes, call.restype = [c_void_p, *takes], answers
+    declare(library, "viq_", CALLS)
     for name, takes in RECORDS.items():
         call = getattr(library, f"viq_{name}")
         call.argtypes = [POINTER(GivenCall), *takes, c_char_p, c_size_t, POINTER(c_size_t)]
         call.restype = c_uint32
-    library.viq_new.argtypes = [POINTER(c_void_p), c_uint32, POINTER(Settings), *LIST, *LIST, *LIST]
-    library.viq_restore.argtypes = [POINTER(c_void_p), c_uint32, c_char_p, c_size_t]
+    declare_making(library, "viq_new", [POINTER(Settings), *LIST, *LIST, *LIST])
+    declare_making(library, "viq_restore", [c_char_p, c_size_t])
     library.viq_routes_refused_at.argtypes = [*LIST, *LIST, *LIST, POINTER(RefusedAt)]
     library.viq_ranges_refused_at.argtypes = [*LIST, POINTER(RefusedAt)]
     for name in ("routes_refused_at", "ranges_refused_at"):
@@ -483,8 +494,6 @@ def load(path: str) -> ctypes.CDLL:
     for name in ("answer_text", "refused_text"):
         call = getattr(library, f"viq_{name}")
         call.argtypes, call.restype = [c_uint32], c_char_p
-    for name in ("new", "restore"):
-        getattr(library, f"viq_{name}").restype = c_uint32
     return library
 
 
@@ -628,7 +637,82 @@ def place_in(data: bytes) -> int:
     return ctypes.cast(c_char_p(data), c_void_p).value or 0
 
 
-class Router:
+def draw_of(draw: int | None) -> int:
+    return random.getrandbits(32) if draw is None else number(draw, 32, "a draw")
+
+
+class Held:
+    """What the library makes and frees: a router, or what stands beside one."""
+    # How the names of its calls begin, what has them declared, and what is raised once it is ended.
+    _begins = "viq_"
+    _load = staticmethod(load)
+    _ended = Answer.NO_ROUTER
+
+    def _begin(self, library: str | os.PathLike[str] | None) -> None:
+        self.lock = threading.RLock()
+        self._library = self._load(os.fspath(library or found()))
+
+    def _make(self, name: str, *values: Any, given: Sequence[Any] = ()) -> None:
+        made = c_void_p()
+        self._must(getattr(self._library, self._begins + name)(byref(made), ABI, *values), given)
+        self._at: c_void_p | None = made
+        self._finalizer = weakref.finalize(self, getattr(self._library, f"{self._begins}end"), made)
+
+    def __enter__(self) -> Self:
+        return self
+
+    def __exit__(self, *_: object) -> None:
+        self.end()
+
+    def _raise(self, answer: Answer, given: Sequence[Any] = ()) -> None:
+        text = self._library.viq_answer_text(answer).decode()
+        raise RAISED.get(answer, Refused)(answer, text + self._item(answer, given))
+
+    def _item(self, answer: Answer, given: Sequence[Any]) -> str:
+        return ""
+
+    def _must(self, answer: int, given: Sequence[Any] = ()) -> None:
+        if answer:
+            self._raise(Answer(answer), given)
+
+    def _call(self, name: str, *values: Any) -> Any:
+        with self.lock:
+            if self._at is None:
+                self._raise(self._ended)
+            return getattr(self._library, self._begins + name)(self._at, *values)
+
+    def _rows(self, count: str, name: str, told: Structure) -> Iterator[Any]:
+        """So many rows, each of which a call writes in the place of the one before."""
+        for index in range(self._call(count)):
+            self._call(name, index, byref(told))
+            yield told
+
+    def _saved(self) -> bytes:
+        size = c_size_t()
+        with self.lock:
+            self._must(self._call("save", None, 0, byref(size)))
+            room = (c_uint8 * size.value)()
+            self._must(self._call("save", room, size, byref(size)))
+        return bytes(room)
+
+    def _pass(self, moment: int, next_moment: Callable[[], int | None], advance: Callable[[int], Answer]) -> None:
+        """Time passes up to a timestamp, timer by timer."""
+        while True:
+            ends_next = next_moment()
+            now = moment if ends_next is None else min(moment, ends_next)
+            self._must(advance(now))
+            ends_next = next_moment()
+            if now == moment and (ends_next is None or ends_next > moment):
+                return
+
+    def end(self) -> None:
+        """Frees it and its memory. From then on each call but this one raises `Closed`."""
+        with self.lock:
+            self._at = None
+            self._finalizer()
+
+
+class Router(Held):
     """A router. Addresses are texts. An interface is `"10.0.0.1/24"` or `("10.0.0.1", 24)`, or has a priority and two
     delays besides, as `("10.0.0.1/24", 1, 500, 2500)`. A route is `("10.1.0.0/24", next hop, interface, preference,
     metric)`, a range `("239.0.0.0/8", RP)`. A call that takes an event returns its answer; its draw is random unless
@@ -650,9 +734,7 @@ class Router:
         """The settings, each by its name, are those of `configuration`, with their usual values."""
         self._begin(library)
         values = configuration(interfaces, ranges, routes, **settings)
-        made = c_void_p()
-        self._must(self._library.viq_new(byref(made), ABI, byref(values[0]), *values[1:]), values)
-        self._keep(made)
+        self._make("new", byref(values[0]), *values[1:], given=values)
 
     def reload(
         self,
@@ -674,8 +756,7 @@ class Router:
         its configuration, the number of the one that has its link, or None where it is left out, and goes down. One to
         which none goes is new. What leaves then has the numbers of before. Such a map is refused (`PLACES_DONT_FIT`)
         where it has more items or fewer, or a number twice or past the last interface."""
-        bits = random.getrandbits(32) if draw is None else number(draw, 32, "a draw")
-        values = configuration(interfaces, ranges, routes, **settings)
+        bits, values = draw_of(draw), configuration(interfaces, ranges, routes, **settings)
         if places is None:
             self._must(self._recorded("reload", bits, values, Draw(bits)), values)
         else:
@@ -688,34 +769,18 @@ class Router:
         and packets, once `set_rp_sets`, `set_older_hosts` and `set_query_version` have set what they had. It has
         nothing to send, and its guard is on. Raises `Refused` where the bytes are no saved state of a router, whatever
         they are."""
-        router, made, data = cls.__new__(cls), c_void_p(), bytes_of(saved)
+        router, data = cls.__new__(cls), bytes_of(saved)
         router._begin(library)
-        router._must(router._library.viq_restore(byref(made), ABI, data, len(data)))
-        router._keep(made)
+        router._make("restore", data, len(data))
         return router
 
-    def _begin(self, library: str | os.PathLike[str] | None) -> None:
-        self.lock = threading.RLock()
-        self._library = load(os.fspath(library or found()))
-
-    def _keep(self, made: c_void_p) -> None:
-        self._router: c_void_p | None = made
+    def _make(self, name: str, *values: Any, given: Sequence[Any] = ()) -> None:
+        super()._make(name, *values, given=given)
         self.has_guard = True
         self.rp_sets: list[RpSet] = []
         self._sent: list[Sent] = []
         self._room = (c_uint8 * MOST_BYTES)()
         self._took: Callable[[str, int, tuple[Any, ...], Answer], None] | None = None
-        self._finalizer = weakref.finalize(self, self._library.viq_end, made)
-
-    def __enter__(self) -> Self:
-        return self
-
-    def __exit__(self, *_: object) -> None:
-        self.end()
-
-    def _raise(self, answer: Answer, given: Sequence[Any] = ()) -> None:
-        text = self._library.viq_answer_text(answer).decode()
-        raise RAISED.get(answer, Refused)(answer, text + self._item(answer, given))
 
     def _item(self, answer: Answer, given: Sequence[Any]) -> str:
         """Which route or range of a configuration is refused, and why, as more of a text."""
@@ -732,18 +797,8 @@ class Router:
         }.get(answer, lambda: False)
         return f": number {told.index}, {library.viq_refused_text(told.reason).decode()}" if is_found() else ""
 
-    def _must(self, answer: int, given: Sequence[Any] = ()) -> None:
-        if answer:
-            self._raise(Answer(answer), given)
-
-    def _call(self, name: str, *values: Any) -> Any:
-        with self.lock:
-            if self._router is None:
-                self._raise(Answer.NO_ROUTER)
-            return getattr(self._library, f"viq_{name}")(self._router, *values)
-
     def _event(self, name: str, draw: int | None, *values: Any) -> Answer:
-        bits = random.getrandbits(32) if draw is None else number(draw, 32, "a draw")
+        bits = draw_of(draw)
         return self._recorded(name, bits, values, Draw(bits))
 
     def _recorded(self, name: str, draw: int, values: tuple[Any, ...], *more: Any) -> Answer:
@@ -767,22 +822,11 @@ class Router:
             where = dotted(told.destination) if kind == "unicast" else told.iface
             self._sent.append(Sent(kind, where, bytes(room[: told.length])))
 
-    def end(self) -> None:
-        """Frees the router and its memory. From then on each call but this one raises `Closed`."""
-        with self.lock:
-            self._router = None
-            self._finalizer()
-
     def save(self) -> bytes:
         """The state of the router as bytes, of which `restore` makes a router that goes on from it. What isn't in them:
         what the clock showed at timestamp 0, packets that `packets` didn't return, and what `set_guard`, `set_rp_sets`,
         `set_older_hosts` and `set_query_version` set."""
-        size = c_size_t()
-        with self.lock:
-            self._must(self._call("save", None, 0, byref(size)))
-            room = (c_uint8 * size.value)()
-            self._must(self._call("save", room, size, byref(size)))
-        return bytes(room)
+        return self._saved()
 
     # ---- events
 
@@ -794,13 +838,8 @@ class Router:
         """Time passes up to the timestamp `moment`, timer by timer, each with a draw of its own. Returns what is to be
         sent, in its order, as `packets` does. Raises `Refused` where `moment` is before the present."""
         with self.lock:
-            while True:
-                ends_next = self.next_moment()
-                now = moment if ends_next is None else min(moment, ends_next)
-                self._must(self.advance(now))
-                ends_next = self.next_moment()
-                if now == moment and (ends_next is None or ends_next > moment):
-                    return self.packets()
+            self._pass(moment, self.next_moment, self.advance)
+            return self.packets()
 
     def frame(self, iface: int, packet: Buffer, draw: int | None = None) -> Answer:
         """A packet came on an interface, to a group."""
@@ -867,8 +906,8 @@ class Router:
         """What all events sent since this was called last, in the order in which it is to leave. None is returned
         twice."""
         with self.lock:
-            if self._router is None:
-                self._raise(Answer.NO_ROUTER)
+            if self._at is None:
+                self._raise(self._ended)
             sent, self._sent = self._sent, []
         return sent
 
@@ -906,13 +945,9 @@ class Router:
     def rows(self, letter: str) -> list[Any]:
         """The rows of a table, ascending by their keys: `NeighbourRow` of N, `GroupRow` of G, `SourceRow` of S,
         `DownstreamRow` of D, `AssertRow` of A, `UpstreamRow` of U, `RptRow` of R, `ActiveRow` of F."""
-        told, rows = CRow(), []
         with self.lock:
             self._must(self._call("read", number(ord(letter), 8, "a letter")))
-            for index in range(self._call("rows")):
-                self._call("row", index, byref(told))
-                rows.append(row_of(bytes(told)))
-        return rows
+            return [row_of(bytes(told)) for told in self._rows("rows", "row", CRow())]
 
     def tables(self) -> Iterator[str]:
         """All tables as they are printed."""
@@ -1024,14 +1059,12 @@ class Router:
 
     def older_rows(self) -> list[OlderRow]:
         """The groups that are in an older mode, ascending by interface and then by group."""
-        told, rows = COlderRow(), []
         with self.lock:
             self._must(self._call("older_read"))
-            for index in range(self._call("older_rows")):
-                self._call("older_row", index, byref(told))
-                ends = (there(moment, NEVER) for moment in (told.one_end, told.two_end))
-                rows.append(OlderRow(told.iface, dotted(told.group), told.mode, *ends))
-        return rows
+            return [
+                OlderRow(row.iface, dotted(row.group), row.mode, there(row.one_end, NEVER), there(row.two_end, NEVER))
+                for row in self._rows("older_rows", "older_row", COlderRow())
+            ]
 
     # ---- a data plane; include/viqeshor/plane.h says what one owes
 
@@ -1046,12 +1079,9 @@ class Router:
     def changed(self) -> list[tuple[str, str]]:
         """The sources whose rows may have changed at the last event, each with its group. Each is listed once,
         ascending by group and then by source."""
-        told, names = CName(), []
         with self.lock:
-            for index in range(self._call("changed")):
-                self._call("changed_source", index, byref(told))
-                names.append((dotted(told.source), dotted(told.group)))
-        return names
+            return [(dotted(told.source), dotted(told.group))
+                    for told in self._rows("changed", "changed_source", CName())]
 
     def may_differ(self, source: str, group: str) -> bool:
         """Whether what `offload` returns for a source, with a fact or without one, may have changed at the last

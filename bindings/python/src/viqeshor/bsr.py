@@ -14,9 +14,6 @@
 """
 import ctypes
 import os
-import random
-import threading
-import weakref
 from collections.abc import Iterable
 from ctypes import POINTER, Structure, byref, c_bool, c_char_p, c_size_t, c_uint8, c_uint32, c_uint64, c_void_p
 from enum import IntEnum
@@ -24,7 +21,6 @@ from functools import cache
 from typing import Any, NamedTuple, Self
 
 from viqeshor import (
-    ABI,
     LIST,
     NEVER,
     RAISED,
@@ -32,12 +28,14 @@ from viqeshor import (
     Buffer,
     CRange,
     Draw,
-    Refused,
+    Held,
     Router,
     Sent,
     bytes_of,
     candidates_of,
-    found,
+    declare,
+    declare_making,
+    draw_of,
     load,
     number,
     ranges_of,
@@ -99,13 +97,9 @@ CALLS: dict[str, tuple[list[Any], Any]] = {
 def declared(path: str) -> ctypes.CDLL:
     """The library, with what the calls of a listener take and answer."""
     library = load(path)
-    for name, (takes, answers) in CALLS.items():
-        call = getattr(library, f"viq_bsr_{name}")
-        call.argtypes, call.restype = [c_void_p, *takes], answers
-    library.viq_bsr_new.argtypes = [POINTER(c_void_p), c_uint32, c_uint32, *LIST, c_uint64]
-    library.viq_bsr_new.restype = c_uint32
-    library.viq_bsr_restore.argtypes = [POINTER(c_void_p), c_uint32, c_char_p, c_size_t]
-    library.viq_bsr_restore.restype = c_uint32
+    declare(library, "viq_bsr_", CALLS)
+    declare_making(library, "viq_bsr_new", [c_uint32, *LIST, c_uint64])
+    declare_making(library, "viq_bsr_restore", [c_char_p, c_size_t])
     return library
 
 
@@ -148,15 +142,11 @@ class Heard(NamedTuple):
     moved: bool
 
 
-def groups_of(row: CRp | CPart) -> str:
+def groups_of(row: CRange | CRp | CPart) -> str:
     return f"{dotted(row.prefix)}/{row.length}"
 
 
-def draw_of(draw: int | None) -> int:
-    return random.getrandbits(32) if draw is None else number(draw, 32, "a draw")
-
-
-class Bsr:
+class Bsr(Held):
     """A listener, which hears Bootstraps before a router and says which RPs this is to have: those of the configured
     ranges, and of each learned range the one that a hash of the range's prefix chooses, or all as candidates, of which
     it chooses for each group (`choose`).
@@ -165,6 +155,7 @@ class Bsr:
     router; `hear`, `give` and `pass_to` are their steps. A reload gives the router the ranges that it has (`given`),
     and then `set_ranges` sets the new configured ones. `save` is called beside that of the router. A listener is freed
     by `end`, or with its last reference."""
+    _begins, _load, _ended = "viq_bsr_", staticmethod(declared), Answer.NO_LISTENER
 
     def __init__(
         self,
@@ -178,71 +169,25 @@ class Bsr:
         which fragments are missing. Until the timestamp `refresh_end` one message may come that a neighbour sends to a
         router which has just started: 60,000 ms after the router started, or 0 for none."""
         self._begin(library)
-        self.configured, made = list(ranges), c_void_p()
+        self.configured = list(ranges)
         given = number(limit, 32, "a limit"), *ranges_of(self.configured), number(refresh_end, 64, "a moment")
-        self._must(self._library.viq_bsr_new(byref(made), ABI, *given))
-        self._keep(made)
+        self._make("new", *given)
 
     @classmethod
     def restore(cls, saved: Buffer, *, library: str | os.PathLike[str] | None = None) -> Self:
         """A listener that knows what the one knew of which `save` returned the bytes, its configured ranges too. It is
         for the router that is restored of what was saved at the same moment. Raises `Refused` where the bytes are none
         of a listener, whatever they are."""
-        bsr, made, data = cls.__new__(cls), c_void_p(), bytes_of(saved)
+        bsr, data = cls.__new__(cls), bytes_of(saved)
         bsr._begin(library)
-        bsr._must(bsr._library.viq_bsr_restore(byref(made), ABI, data, len(data)))
-        bsr._keep(made)
-        bsr.configured = bsr._ranges()
+        bsr._make("restore", data, len(data))
+        rows = bsr._rows("configured", "range", CRange())
+        bsr.configured = [(groups_of(told), dotted(told.rp)) for told in rows]
         return bsr
-
-    def _begin(self, library: str | os.PathLike[str] | None) -> None:
-        self.lock = threading.RLock()
-        self._library = declared(os.fspath(library or found()))
-
-    def _keep(self, made: c_void_p) -> None:
-        self._bsr: c_void_p | None = made
-        self._finalizer = weakref.finalize(self, self._library.viq_bsr_end, made)
-
-    def __enter__(self) -> Self:
-        return self
-
-    def __exit__(self, *_: object) -> None:
-        self.end()
-
-    def _raise(self, answer: Answer) -> None:
-        raise RAISED.get(answer, Refused)(answer, self._library.viq_answer_text(answer).decode())
-
-    def _must(self, answer: int) -> None:
-        if answer:
-            self._raise(Answer(answer))
-
-    def _call(self, name: str, *values: Any) -> Any:
-        with self.lock:
-            if self._bsr is None:
-                self._raise(Answer.NO_LISTENER)
-            return getattr(self._library, f"viq_bsr_{name}")(self._bsr, *values)
-
-    def end(self) -> None:
-        """Frees the listener and its memory. From then on each call but this one raises `Closed`."""
-        with self.lock:
-            self._bsr = None
-            self._finalizer()
 
     def save(self) -> bytes:
         """All that the listener knows as bytes, of which `restore` makes one. A router's `save` doesn't have it."""
-        size = c_size_t()
-        with self.lock:
-            self._must(self._call("save", None, 0, byref(size)))
-            room = (c_uint8 * size.value)()
-            self._must(self._call("save", room, size, byref(size)))
-        return bytes(room)
-
-    def _ranges(self) -> list[tuple[str, str]]:
-        told, rows = CRange(), []
-        for index in range(self._call("configured")):
-            self._call("range", index, byref(told))
-            rows.append((f"{dotted(told.prefix)}/{told.length}", dotted(told.rp)))
-        return rows
+        return self._saved()
 
     # ---- whole steps
 
@@ -272,13 +217,8 @@ class Bsr:
     def run_to(self, router: Router, moment: int) -> list[Sent]:
         """Time passes up to the timestamp `moment`, timer by timer, as by `Router.run_to`."""
         with self.lock, router.lock:
-            while True:
-                ends_next = self.next_moment(router)
-                now = moment if ends_next is None else min(moment, ends_next)
-                self._must(self.advance(router, now))
-                ends_next = self.next_moment(router)
-                if now == moment and (ends_next is None or ends_next > moment):
-                    return router.packets()
+            self._pass(moment, lambda: self.next_moment(router), lambda now: self.advance(router, now))
+            return router.packets()
 
     def next_moment(self, router: Router) -> int | None:
         """The timestamp at which time is to pass: the next timer of the router expires, or an RP of the listener."""
@@ -311,7 +251,7 @@ class Bsr:
         data, moved = bytes_of(packet), c_bool()
         with self.lock, router.lock:
             place = number(iface, 32, "an interface")
-            answer = Answer(self._call("hear", router._router, place, data, len(data), byref(moved)))
+            answer = Answer(self._call("hear", router._at, place, data, len(data), byref(moved)))
             if answer == Answer.DONE:
                 router._take()
         if answer in RAISED:
@@ -325,7 +265,7 @@ class Bsr:
 
     def _give(self, router: Router, bits: int) -> Answer:
         with self.lock, router.lock:
-            answer = self._call("give", router._router, Draw(bits))
+            answer = self._call("give", router._at, Draw(bits))
             if self.choice() == Choice.GROUP:
                 return self._told(router, bits, answer, "candidates", candidates_of(self.candidates()))
             return self._told(router, bits, answer, "ranges", ranges_of(self.given()))
@@ -349,7 +289,7 @@ class Bsr:
         the ranges are these alone, and then the router is given the candidates for which there is room."""
         static, bits, most = list(ranges), draw_of(draw), number(limit, 32, "a limit")
         with self.lock, router.lock:
-            answer = self._call("ranges", router._router, most, *ranges_of(static), Draw(bits))
+            answer = self._call("ranges", router._at, most, *ranges_of(static), Draw(bits))
             if answer == Answer.NO_SETTING:
                 self._raise(Answer.NO_SETTING)
             before, self.configured = self.configured, static
@@ -381,23 +321,18 @@ class Bsr:
 
     def rps(self) -> list[LearnedRp]:
         """The RPs in force, in the order in which they were learned."""
-        told, rows = CRp(), []
         with self.lock:
-            for index in range(self._call("rps")):
-                self._call("rp", index, byref(told))
-                said = told.priority, told.hash_length, told.is_given, told.end
-                rows.append(LearnedRp(groups_of(told), dotted(told.rp), *said))
-        return rows
+            return [LearnedRp(groups_of(row), dotted(row.rp), row.priority, row.hash_length, row.is_given, row.end)
+                    for row in self._rows("rps", "rp", CRp())]
 
     def parts(self) -> list[LearnedPart]:
         """The RPs of messages of which fragments are missing."""
-        told, rows = CPart(), []
         with self.lock:
-            for index in range(self._call("parts")):
-                self._call("part", index, byref(told))
-                said = told.priority, told.holdtime, dotted(told.bsr), told.tag, told.end
-                rows.append(LearnedPart(groups_of(told), dotted(told.rp), *said))
-        return rows
+            return [
+                LearnedPart(groups_of(row), dotted(row.rp), row.priority, row.holdtime, dotted(row.bsr), row.tag,
+                            row.end)
+                for row in self._rows("parts", "part", CPart())
+            ]
 
     def choice(self) -> Choice:
         """What an RP is chosen for; of a new listener a range."""

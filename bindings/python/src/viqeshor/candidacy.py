@@ -18,35 +18,34 @@
 """
 import ctypes
 import os
-import threading
-import weakref
 from collections.abc import Sequence
 from ctypes import POINTER, Structure, byref, c_bool, c_char_p, c_size_t, c_uint32, c_uint64, c_void_p
 from enum import IntEnum
 from functools import cache
-from typing import Any, NamedTuple, Self
+from typing import Any, NamedTuple
 
 from viqeshor import (
-    ABI,
     NEVER,
     RAISED,
     Answer,
     Buffer,
     Draw,
-    Refused,
+    Held,
     Router,
     Sent,
     address,
     all_numbers,
     array,
     bytes_of,
-    found,
+    declare,
+    declare_making,
+    draw_of,
     load,
     number,
     prefix,
     there,
 )
-from viqeshor.bsr import LAST_MOMENT, Bsr, Heard, draw_of
+from viqeshor.bsr import LAST_MOMENT, Bsr, Heard, groups_of
 from viqeshor.rows import numbers
 from viqeshor.trees import dotted
 
@@ -64,10 +63,11 @@ class Role(IntEnum):
 
 class CandidateBsr(NamedTuple):
     """As what BSR a router stands: one of its own addresses, to which all routers of the domain have a route; its
-    priority, at most 255, of which the higher is preferred; the bits of the hash function's mask that it says, at most
-    32; and the most RPs of ranges that it holds, 1 to 255, at most 143 where all may be of one range."""
+    priority, at most 255, of which the higher is preferred, and 64 is usual (RFC 5059, 4.1); the bits of the hash
+    function's mask that it says, at most 32; and the most RPs of ranges that it holds, 1 to 255, at most 143 where all
+    may be of one range."""
     address: str
-    priority: int = 0
+    priority: int = 64
     hash_length: int = 30
     limit: int = 255
 
@@ -115,12 +115,8 @@ CALLS: dict[str, tuple[list[Any], Any]] = {
 def declared(path: str) -> ctypes.CDLL:
     """The library, with what the calls of a candidacy take and answer."""
     library = load(path)
-    for name, (takes, answers) in CALLS.items():
-        call = getattr(library, f"viq_candidacy_{name}")
-        call.argtypes, call.restype = [c_void_p, *takes], answers
-    given = POINTER(CSettings), POINTER(CPrefix), c_size_t, c_uint64
-    library.viq_candidacy_new.argtypes = [POINTER(c_void_p), c_uint32, *given]
-    library.viq_candidacy_new.restype = c_uint32
+    declare(library, "viq_candidacy_", CALLS)
+    declare_making(library, "viq_candidacy_new", [POINTER(CSettings), POINTER(CPrefix), c_size_t, c_uint64])
     return library
 
 
@@ -157,7 +153,7 @@ def settings_of(as_bsr: CandidateBsr | None, as_rp: CandidateRp | None) -> CSett
     return told
 
 
-class Candidacy:
+class Candidacy(Held):
     """By a candidacy a router with a listener stands as bootstrap router (BSR), as RP, or as both. A candidate BSR
     yields to one of more weight. Elected it says in Bootstraps which RPs advertised themselves to it, and the listener
     learns them as all others do. A candidate RP advertises itself to the elected BSR.
@@ -166,6 +162,7 @@ class Candidacy:
     and `unicast` in the place of that of the router; `hear`, `hear_unicast` and `pass_to` are their steps. The other
     calls of the listener stay as they are. A candidacy isn't saved: beside a restored router it is made anew. Before
     one goes, `leave` says that its RP goes. It is freed by `end`, or with its last reference."""
+    _begins, _load, _ended = "viq_candidacy_", staticmethod(declared), Answer.NO_CANDIDACY
 
     def __init__(
         self,
@@ -178,40 +175,11 @@ class Candidacy:
         """It is made at the router's present, a timestamp in ms, to which time is to pass once more: a candidate RP
         then follows a BSR that is elected already. Raises `Refused` where a value is out of its range, an address is no
         host's, or a range is no prefix of groups."""
-        self.lock = threading.RLock()
-        self._library = declared(os.fspath(library or found()))
-        made, given = c_void_p(), [] if as_rp is None else list(as_rp.ranges)
+        self._begin(library)
+        given = [] if as_rp is None else list(as_rp.ranges)
         ranges = array(CPrefix, [all_numbers(CPrefix, [*prefix(net)]) for net in given])
         settings = settings_of(as_bsr, as_rp)
-        self._must(self._library.viq_candidacy_new(byref(made), ABI, byref(settings), *ranges,
-                                                   number(now, 64, "a moment")))
-        self._candidacy: c_void_p | None = made
-        self._finalizer = weakref.finalize(self, self._library.viq_candidacy_end, made)
-
-    def __enter__(self) -> Self:
-        return self
-
-    def __exit__(self, *_: object) -> None:
-        self.end()
-
-    def _raise(self, answer: Answer) -> None:
-        raise RAISED.get(answer, Refused)(answer, self._library.viq_answer_text(answer).decode())
-
-    def _must(self, answer: int) -> None:
-        if answer:
-            self._raise(Answer(answer))
-
-    def _call(self, name: str, *values: Any) -> Any:
-        with self.lock:
-            if self._candidacy is None:
-                self._raise(Answer.NO_CANDIDACY)
-            return getattr(self._library, f"viq_candidacy_{name}")(self._candidacy, *values)
-
-    def end(self) -> None:
-        """Frees the candidacy and its memory. From then on each call but this one raises `Closed`."""
-        with self.lock:
-            self._candidacy = None
-            self._finalizer()
+        self._make("new", byref(settings), *ranges, number(now, 64, "a moment"))
 
     # ---- whole steps
 
@@ -252,13 +220,8 @@ class Candidacy:
     def run_to(self, bsr: Bsr, router: Router, moment: int) -> list[Sent]:
         """Time passes up to the timestamp `moment`, timer by timer, as by `Router.run_to`."""
         with self.lock, bsr.lock, router.lock:
-            while True:
-                ends_next = self.next_moment(bsr, router)
-                now = moment if ends_next is None else min(moment, ends_next)
-                self._must(self.advance(bsr, router, now))
-                ends_next = self.next_moment(bsr, router)
-                if now == moment and (ends_next is None or ends_next > moment):
-                    return router.packets()
+            self._pass(moment, lambda: self.next_moment(bsr, router), lambda now: self.advance(bsr, router, now))
+            return router.packets()
 
     def next_moment(self, bsr: Bsr, router: Router) -> int | None:
         """The timestamp at which time is to pass: the next timer of the router expires, or one of the listener or of
@@ -285,7 +248,7 @@ class Candidacy:
         with self.lock, bsr.lock, router.lock:
             place, bits = number(iface, 32, "an interface"), Draw(draw_of(draw))
             given = place, data, len(data), bits, byref(moved)
-            answer = Answer(self._call("hear", bsr._bsr, router._router, *given))
+            answer = Answer(self._call("hear", bsr._at, router._at, *given))
             if answer == Answer.DONE:
                 router._take()
         if answer in RAISED:
@@ -298,7 +261,7 @@ class Candidacy:
         the router isn't the BSR; or a refusal where it can't be read."""
         data = bytes_of(packet)
         with self.lock, router.lock:
-            answer = Answer(self._call("unicast", router._router, data, len(data)))
+            answer = Answer(self._call("unicast", router._at, data, len(data)))
         if answer in RAISED:
             self._raise(answer)
         return answer
@@ -313,7 +276,7 @@ class Candidacy:
         moved = c_bool()
         with self.lock, bsr.lock, router.lock:
             now, bits = number(moment, 64, "a moment"), Draw(draw_of(draw))
-            self._must(self._call("pass", bsr._bsr, router._router, now, bits, byref(moved)))
+            self._must(self._call("pass", bsr._at, router._at, now, bits, byref(moved)))
             router._take()
         return moved.value
 
@@ -321,7 +284,7 @@ class Candidacy:
         """Says that the RP goes: the packets that are to be sent, with an advertisement that takes it away. Where the
         router stands as no RP, or where no BSR is elected, there is none."""
         with self.lock, bsr.lock, router.lock:
-            self._must(self._call("leave", bsr._bsr, router._router))
+            self._must(self._call("leave", bsr._at, router._at))
             router._take()
             return router.packets()
 
@@ -337,10 +300,6 @@ class Candidacy:
 
     def rps(self) -> list[HeldRp]:
         """The RPs that advertised themselves to it, in the order in which they came."""
-        told, rows = CHeld(), []
         with self.lock:
-            for index in range(self._call("rps")):
-                self._call("rp", index, byref(told))
-                said = dotted(told.rp), told.priority, told.holdtime, told.end
-                rows.append(HeldRp(f"{dotted(told.prefix)}/{told.length}", *said))
-        return rows
+            return [HeldRp(groups_of(told), dotted(told.rp), told.priority, told.holdtime, told.end)
+                    for told in self._rows("rps", "rp", CHeld())]

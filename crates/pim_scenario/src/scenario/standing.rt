@@ -51,7 +51,7 @@ fn bsr_in(router: &Table, table: &Table) -> Result<BsrText, Unread>
     field::only(table, &["address", "priority", "hash_length", "limit"])?;
     Ok(BsrText {
         address: own_address_in(router, table)?,
-        priority: field::number_between(table, "priority", 0, 255, 0)?,
+        priority: field::number_between(table, "priority", 0, 255, 64)?,
         hash_length: field::number_between(table, "hash_length", 0, 32, 30)?,
         limit: field::number_between(table, "limit", 1, 255, 255)?,
     })

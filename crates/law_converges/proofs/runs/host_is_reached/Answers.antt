@@ -1,0 +1,5 @@
+use Rattle.law_converges.{proofs.WinnerHopRun.host_is_reached}
+use Rattle.law_converges.proofs.runs.host_is_reached.Goals as goal
+
+pub returns : goal.returns
+returns c = host_is_reached
