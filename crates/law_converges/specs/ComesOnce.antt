@@ -142,8 +142,8 @@ IsOfTree Tree.Shared s e p j a = Unit {0}
 IsOfTree Tree.Source s e p j (OnTree i is on off) = OnShortestPath (renewed s p.destination p.source i.number) p.destination p.source i.number
 IsOfTree Tree.Source s e p j a = ⊥
 
--- if a move brings a packet of the source to the root, on a tree or in a Register, it comes down exactly once, within d for each
--- router of the way, if the moves go so far
+-- if a move brings a packet of the source to the root, on a tree or in a Register, and for the source's own tree on that, it comes down
+-- exactly once, within d for each router of the way, if the moves go so far
 pub record IsServedOnce (g src d : ℕ) (started : ℕ → ℕ) (t : Traffic) (root : Root) (link : ℕ) (fs : List Forwarder) (n : Network) (m : Move)
     (ms : List Move) : Type 0 where
   pub served : (e : Event) (before after : Station) (payload : List ℕ) (lives : ℕ) → event_of n m ≡ Some (root.router, e)

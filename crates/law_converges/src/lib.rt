@@ -1,7 +1,8 @@
 //! What becomes of a network some time after the last change: on what the routers of a link agree, which groups each of
-//! them knows, when a group that its hosts left is gone, what each next hop holds, which of two winners of an assert is
-//! left, how long its loser stays one, whom a router joins over when its next hop changes, and which Prune of a source
-//! never takes effect. Laws of the definitions, each the contract of a function with nothing to do.
+//! them knows, when a group that its hosts left is gone, what each next hop holds, which of several senders is left, how
+//! long the loser of an assert stays one, whom a router joins over, that each packet comes once to each member's link, who
+//! asked for what else comes, and which Prune of a source never takes effect. Laws of the definitions, each the contract
+//! of a function with nothing to do.
 #![tactic(auto)]
 
 pub mod asserts;

@@ -6,12 +6,13 @@ ghost use Rattle.law_converges.specs.ComesOnce.{EachPacketComesOnce, FrameComesO
 ghost use Rattle.law_converges.specs.SourceWays.{EveryWantOfSourceIsServedOnce, SentComesOnPath};
 
 /// Down a way of any length, from when its routers forward a source's packets on: of each packet that an event brings to the
-/// way's top router, its root, on a tree or in a Register, exactly one frame on the last link comes. The root puts one copy on
-/// its link; each further router takes the frame from the link above once, and puts one copy on the link below, within d of when
-/// the frame was sent. The frame on the last link has the packet's payload, and its TTL is lower by one for each router; that it
-/// is above 0 there is a premise, and that the moves go so far. Each of the routers has one interface on the link below, and
-/// passes the source's packets to it; the links carry all frames to all of their routers, in order and within d. It says
-/// nothing of what others send there.
+/// way's top router, its root, on a tree or in a Register, exactly one frame on the last link comes; where the way is of the
+/// source's own tree, of each that comes on that, with SPTbit set by it at the latest. The root puts one copy on its link; each
+/// further router takes the frame from the link above once, and puts one copy on the link below, within d of when the frame was
+/// sent. The frame on the last link has the packet's payload, and its TTL is lower by one for each router; that it is above 0
+/// there is a premise, and that the moves go so far. Each of the routers has one interface on the link below, and passes the
+/// source's packets to it; the links carry all frames to all of their routers, in order and within d. It says nothing of what
+/// others send there.
 pub fn each_packet_comes_once()
     ensures { EachPacketComesOnce }
 {}
