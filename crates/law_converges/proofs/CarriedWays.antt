@@ -18,7 +18,7 @@ one_mapped P [] w f none = absurd none
 one_mapped P (v ∷ vs) w f (inl same) = subst (λ (u : WayOver). P (way_on u)) same f.0
 one_mapped P (v ∷ vs) w f (inr later) = one_mapped P vs w f.1 later
 
-turned : (a b : ℕ) → (a == b) ≡ false → (b == a) ≡ false
+pub turned : (a b : ℕ) → (a == b) ≡ false → (b == a) ≡ false
 turned a b off = go (b == a) refl
   where
     contradicts : true ≡ false → ⊥
@@ -127,6 +127,28 @@ pub ready_past : (started : ℕ → ℕ) (bound r : ℕ) (ms : List Move) (n : N
 ready_past started bound r [] n f = tt
 ready_past started bound r (m ∷ ms) n f = (λ past. ready_then r n m f, ready_past started bound r ms (moved n m).1 (ready_then r n m f))
 
+-- what the LANs of a way carry
+module _ (x : Join) (g d late bound limit : ℕ) (started : ℕ → ℕ) (t : Traffic) (came : Arrivals) (lans : List Lan) (n : Network) (ms : List Move)
+    (quiet : AllByRecursion (LanIsQuiet d late bound started t came n ms) lans) where
+  pub its_lan : (h : HopOn) → HopStands x g limit started lans n ms h → LanIsQuiet d late bound started t came n ms h.lan
+  its_lan h q = one_lan (LanIsQuiet d late bound started t came n ms) lans h.lan quiet q.among
+
+  pub hears : (h : HopOn) → HopStands x g limit started lans n ms h → (f : Forwarder) → f.self ≡ h.lower → f.above ≡ number_of h.lan
+      → HearsAll d started t came n ms f
+  hears h q f self above =
+      let carried = (its_lan h q).carried in
+      record {
+        members = routers (h.lan).link;
+        among = subst (IsOne (routers (h.lan).link)) (sym self) (q.on).lower;
+        carries = subst (λ (l : ℕ). Carries d started t l (routers (h.lan).link) came n ms) (sym above) carried.carries;
+        behind = carried.behind f.self (subst (IsOne (routers (h.lan).link)) (sym self) (q.on).lower);
+      }
+
+  pub all_hear : (h : HopOn) (hs : List HopOn) → HopsStand x g limit started lans n ms (h.upper).router hs
+      → AllByRecursion (HearsAll d started t came n ms) (forwarders h hs)
+  all_hear h [] rest = tt
+  all_hear h (k ∷ ks) rest = (hears k rest.1 _ refl refl, all_hear k ks rest.2)
+
 module _ (g src rp d late bound limit : ℕ) (started : ℕ → ℕ) (t : Traffic) (came : Arrivals) (lans : List Lan) (n : Network) (ms : List Move)
     (quiet : AllByRecursion (LanIsQuiet d late bound started t came n ms) lans) where
   abbrev Quiet : HopOn → Type 0
@@ -141,11 +163,11 @@ module _ (g src rp d late bound limit : ℕ) (started : ℕ → ℕ) (t : Traffi
   abbrev AreHeldOn : List HopOn → Network → Type 0
   AreHeldOn hs x = AllByRecursion (λ c. IsHeld (Star rp) g c x) (map pair_on hs)
 
-  pub its_lan : (h : HopOn) → Quiet h → LanIsQuiet d late bound started t came n ms h.lan
-  its_lan h q = one_lan (LanIsQuiet d late bound started t came n ms) lans h.lan quiet q.among
+  lan : (h : HopOn) → Quiet h → LanIsQuiet d late bound started t came n ms h.lan
+  lan = its_lan (Star rp) g d late bound limit started t came lans n ms quiet
 
   upper_ready : (h : HopOn) → Quiet h → PastIt (IsReady (h.upper).router)
-  upper_ready h q = ready_past started limit (h.upper).router ms n ((its_lan h q).meet.ready h.upper (q.on).upper)
+  upper_ready h q = ready_past started limit (h.upper).router ms n ((lan h q).meet.ready h.upper (q.on).upper)
 
   -- who sends on the link of a next hop isn't its lower router
   sender_is : (h : HopOn) (hs : List HopOn) → Rest h hs → sender_of (root_of h hs) (forwarders h hs) ≡ (h.upper).router
@@ -211,22 +233,6 @@ module _ (g src rp d late bound limit : ℕ) (started : ℕ → ℕ) (t : Traffi
       (way_past k ks rest.1 rest.2 (less (AreHeldOn (h ∷ k ∷ ks)) (AreHeldOn (k ∷ ks)) (λ x a. a.1) held)
       (less (AreOnTree g src h (k ∷ ks)) (AreOnTree g src k ks) (λ x a. a.2) tree))
 
-  -- ---- what the links carry
-
-  pub hears : (h : HopOn) → Quiet h → (f : Forwarder) → f.self ≡ h.lower → f.above ≡ number_of h.lan → HearsAll d started t came n ms f
-  hears h q f self above =
-      let carried = (its_lan h q).carried in
-      record {
-        members = routers (h.lan).link;
-        among = subst (IsOne (routers (h.lan).link)) (sym self) (q.on).lower;
-        carries = subst (λ (l : ℕ). Carries d started t l (routers (h.lan).link) came n ms) (sym above) carried.carries;
-        behind = carried.behind f.self (subst (IsOne (routers (h.lan).link)) (sym self) (q.on).lower);
-      }
-
-  pub all_hear : (h : HopOn) (hs : List HopOn) → Rest h hs → AllByRecursion (HearsAll d started t came n ms) (forwarders h hs)
-  all_hear h [] rest = tt
-  all_hear h (k ∷ ks) rest = (hears k rest.1 _ refl refl, all_hear k ks rest.2)
-
   -- ---- from when the next hops hold the group
 
   module _ (h : HopOn) (hs : List HopOn) (f : Forwarder) (r : ℕ) (isg : IsJoin (Star rp) g)
@@ -247,7 +253,10 @@ module _ (g src rp d late bound limit : ℕ) (started : ℕ → ℕ) (t : Traffi
     pub served_once : HoldsPastOn started limit (AreServedOnce g src d started t (root_of h hs) f.below (f ∷ forwarders h hs)) n ms
     served_once =
         each_packet_comes_once g src d limit started t came (root_of h hs) f.below (f ∷ forwarders h hs) n ms isg.multicast isg.goes_far
-        ((its_lan h hops.1).carried).sent (hears h hops.1 f self above, all_hear h hs hops.2) all_forward
+        ((lan h hops.1).carried).sent (
+          hears (Star rp) g d late bound limit started t came lans n ms quiet h hops.1 f self above,
+          all_hear (Star rp) g d late bound limit started t came lans n ms quiet h hs hops.2,
+        ) all_forward
 
     pub none_besides : EachMove (AreAlonePast g src started limit (root_of h hs) f.below (f ∷ forwarders h hs)) n ms
         → HoldsPastOn started limit (AllCameDown g src (root_of h hs) f.below (f ∷ forwarders h hs)) n ms

@@ -330,7 +330,7 @@ module _ (g src rp d late lag bound limit : ℕ) (started : ℕ → ℕ) (t : Tr
   own = quiet g d late lag bound started t came plan n ms a x q its
 
   above : LanIsQuiet d late bound started t came n ms h.lan
-  above = its_lan g src rp d late bound limit started t came plan.lans n ms q.lans h (o.stand).1
+  above = its_lan (Star rp) g d late bound limit started t came plan.lans n ms q.lans h (o.stand).1
 
   can_forward : Later (CanForward g src rp a x h)
   can_forward =

@@ -1,9 +1,9 @@
 -- A way of the source's own tree is joined by the bound, and each of its routers takes the packets on the way to the source.
-use Rattle.std.{proofs.Common.{List, Option, Some, [], ap, arith, eq-eqb, eqb-true, false, inl, inr, is_some, map, option_map, refl, subst, sym, true, ℕ, ◌*◌, ◌+◌, ◌<◌, ◌==◌, ◌∙◌, ◌∷◌, ◌≡◌, ◌≤◌, ◌⊎◌}, specs.{List.AllByRecursion, Prelude.slice_get}}
+use Rattle.std.{proofs.Common.{List, Option, Some, [], ap, arith, eq-eqb, false, inl, inr, is_some, map, option_map, refl, subst, sym, true, ℕ, ◌*◌, ◌+◌, ◌<◌, ◌==◌, ◌∙◌, ◌∷◌, ◌≡◌, ◌≤◌, ◌⊎◌}, specs.{List.AllByRecursion, Prelude.slice_get}}
 use Rattle.pim_types.{specs.{Keys.source_key, declared.path.{Hop.Hop, Path.Path}}}
 use Rattle.pim_model.{specs.{Network.{Move, Network, Station, station_at}, Sets.{assert_source, is_loser}, State.{State, iface_count, is_up}, Tables.{has_row, row_at, same_option}, Unicast.{is_connected, is_rpf_interface, route, rpf_interface}}}
 use Rattle.law_streams.{proofs.Pairs.same_station, specs.{InTimeJoins.{IsHeld, IsJoin, IsUnlost, Source, Wants, rpf_of}, Roots.OnTree, Served.{IsSourceJoined, IsSourceMember, OnShortestPath, renewed}, Turning.may_turn}}
-use Rattle.law_converges.{proofs.{CarriedNetwork.one_lan, CarriedWays.{HopStands, HopsStand, stand_later}, ComesOnce.each_packet_comes_once, NothingElse.nothing_else_comes, Past.{both_past, each_past, later_past, same_past, throughout_past}, RoutesToRp.{AreJoined, all_meet, are_joined, within}, RpfStays.{IsOver, over_rpf}, SourceStreams.{on_path, wants_source}}, specs.{Carried.{Arrivals, Carries, Traffic}, CarriedNetwork.{HopOn, IsQuietPlan, Lan, LanIsQuiet, Plan, number_of}, CarriedWays.{forwarders, pair_on}, ComesOnce.{AreForwarding, Forwarder, Forwards, HasOneOn, HearsAll, OfSource, PassesOn, sender_of}, JoinedWays.a_hop, LinkDr.{IsOne, Member, Stands}, Past.{HoldsPast}, RoutesToRp.{AllCanJoin, AreChosen, RoutesLead, Routing, WantsFrom, hops_up}, RpfJoins.IsNextHop, Settles.routers, SourceWays.{AreFreeForSource, EachSourceMemberIsServed, EveryWantOfSourceIsServedOnce, IsReachedBySource, IsServedBySource, IsSingle, PassesSourceDown, ReachesMember, SentComesOnPath, ServesSourceMember, TakesSource, source_root_of, to_member}}}
+use Rattle.law_converges.{proofs.{CarriedWays.{HopStands, HopsStand, all_hear, hears, its_lan, stand_later, turned}, ComesOnce.each_packet_comes_once, NothingElse.nothing_else_comes, Past.{both_past, each_past, later_past, same_past, throughout_past}, RoutesToRp.{AreJoined, all_meet, are_joined, within}, RpfStays.{IsOver, over_rpf}, SourceStreams.{on_path, wants_source}}, specs.{Carried.{Arrivals, Traffic}, CarriedNetwork.{HopOn, IsQuietPlan, Lan, LanIsQuiet, Plan, number_of}, CarriedWays.{forwarders, pair_on}, ComesOnce.{AreForwarding, Forwarder, Forwards, HasOneOn, OfSource, PassesOn, sender_of}, JoinedWays.a_hop, LinkDr.{Member, Stands}, Past.{HoldsPast}, RoutesToRp.{AllCanJoin, AreChosen, RoutesLead, Routing, WantsFrom, hops_up}, RpfJoins.IsNextHop, SourceWays.{AreFreeForSource, EachSourceMemberIsServed, EveryWantOfSourceIsServedOnce, IsReachedBySource, IsServedBySource, IsSingle, PassesSourceDown, ReachesMember, SentComesOnPath, ServesSourceMember, TakesSource, source_root_of, to_member}}}
 
 -- the way to the source is over the interface of RPF'(S,G)
 on_source_so : (src g : ℕ) (s : State) (hop : Hop) → rpf_of (Source src) s g ≡ Some hop → is_rpf_interface s src hop.iface.number ≡ true
@@ -83,9 +83,6 @@ abbrev AreInLine : (r : ℕ) → List HopOn → Type 0
 AreInLine r [] = Unit {0}
 AreInLine r (h ∷ hs) = ((h.lower).router ≡ r) × (((h.lower).router == (h.upper).router) ≡ false) × AreInLine (h.upper).router hs
 
-turned : (a b : ℕ) → (a == b) ≡ false → (b == a) ≡ false
-turned a b off = grind (arith, off, eqb-true)
-
 module _ (g src : ℕ) (n : Network) where
   abbrev Held : List HopOn → Type 0
   Held hs = AllByRecursion (λ c. IsHeld (Source src) g c n) (map pair_on hs)
@@ -129,8 +126,8 @@ module _ (g src d late bound limit : ℕ) (started : ℕ → ℕ) (t : Traffic) 
   abbrev PastIt : (Network → Type 0) → Type 0
   PastIt P = HoldsPast started limit P n ms
 
-  its_lan : (h : HopOn) → HopStands (Source src) g limit started lans n ms h → LanIsQuiet d late bound started t came n ms h.lan
-  its_lan h q = one_lan (LanIsQuiet d late bound started t came n ms) lans h.lan quiet q.among
+  lan : (h : HopOn) → HopStands (Source src) g limit started lans n ms h → LanIsQuiet d late bound started t came n ms h.lan
+  lan = its_lan (Source src) g d late bound limit started t came lans n ms quiet
 
   now_past : (h : HopOn) → HopStands (Source src) g limit started lans n ms h → PastIt (IsNow g src h)
   now_past h q =
@@ -138,7 +135,7 @@ module _ (g src d late bound limit : ℕ) (started : ℕ → ℕ) (t : Traffic) 
       (IsNow g src h) (λ x a b. record { next = a.0; unlost = a.1; stands = b }) ms n
       (both_past started limit (IsNextHop (Source src) g (pair_on h)) (IsUnlost (Source src) g (pair_on h))
       (λ x. IsNextHop (Source src) g (pair_on h) x × IsUnlost (Source src) g (pair_on h) x) (λ x a b. (a, b)) ms n q.there q.unlost)
-      (throughout_past started limit (Stands (number_of h.lan) h.lower) ms n (((its_lan h q).meet).stand h.lower (q.on).lower))
+      (throughout_past started limit (Stands (number_of h.lan) h.lower) ms n (((lan h q).meet).stand h.lower (q.on).lower))
 
   all_now : (r : ℕ) (hs : List HopOn) → HopsStand (Source src) g limit started lans n ms r hs → AllByRecursion (λ h. PastIt (IsNow g src h)) hs
   all_now r [] stand = tt
@@ -147,22 +144,6 @@ module _ (g src d late bound limit : ℕ) (started : ℕ → ℕ) (t : Traffic) 
   in_line : (r : ℕ) (hs : List HopOn) → HopsStand (Source src) g limit started lans n ms r hs → AreInLine r hs
   in_line r [] stand = tt
   in_line r (h ∷ hs) stand = (stand.0, ((stand.1).on).apart, in_line (h.upper).router hs stand.2)
-
-  hears : (h : HopOn) → HopStands (Source src) g limit started lans n ms h → (f : Forwarder) → f.self ≡ h.lower → f.above ≡ number_of h.lan
-      → HearsAll d started t came n ms f
-  hears h q f self above =
-      let carried = (its_lan h q).carried in
-      record {
-        members = routers (h.lan).link;
-        among = subst (IsOne (routers (h.lan).link)) (sym self) (q.on).lower;
-        carries = subst (λ (l : ℕ). Carries d started t l (routers (h.lan).link) came n ms) (sym above) carried.carries;
-        behind = carried.behind f.self (subst (IsOne (routers (h.lan).link)) (sym self) (q.on).lower);
-      }
-
-  all_hear : (h : HopOn) (hs : List HopOn) → HopsStand (Source src) g limit started lans n ms (h.upper).router hs
-      → AllByRecursion (HearsAll d started t came n ms) (forwarders h hs)
-  all_hear h [] rest = tt
-  all_hear h (k ∷ ks) rest = (hears k rest.1 _ refl refl, all_hear k ks rest.2)
 
   module _ (h : HopOn) (hs : List HopOn) (f : Forwarder) (r : ℕ) (isg : IsJoin (Source src) g)
       (stand : HopsStand (Source src) g limit started lans n ms r (h ∷ hs))
@@ -194,7 +175,10 @@ module _ (g src d late bound limit : ℕ) (started : ℕ → ℕ) (t : Traffic) 
       served = record {
         once =
             each_packet_comes_once g src d limit started t came (source_root_of h hs) f.below (f ∷ forwarders h hs) n ms isg.multicast isg.goes_far
-            ((its_lan h stand.1).carried).sent (hears h stand.1 f p.self p.above, all_hear h hs stand.2) all_forward;
+            ((lan h stand.1).carried).sent (
+              hears (Source src) g d late bound limit started t came lans n ms quiet h stand.1 f p.self p.above,
+              all_hear (Source src) g d late bound limit started t came lans n ms quiet h hs stand.2,
+            ) all_forward;
         only = λ alone.
             nothing_else_comes g src limit started (source_root_of h hs) f.below (f ∷ forwarders h hs) n ms isg.goes_far all_forward alone;
       }
